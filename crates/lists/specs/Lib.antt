@@ -1,0 +1,5 @@
+pub mod Lists
+pub mod Tests
+pub mod All
+pub mod Sums
+pub mod Picked

@@ -1,0 +1,1 @@
+// Lists, sums over them and facts of their elements: no code, see specs/.
