@@ -1,0 +1,70 @@
+-- The table after an interval, and looking ahead: step F and "Looking ahead" of document 01. Assumes nothing.
+use Prim.Native.Nat.{ℕ, zero, suc, _+_, _-_}
+use mathlib.Core.Bool.{Bool, true, false, cond, _&&_, _||_}
+use mathlib.Core.List.{List, [], _∷_, map}
+use lib.Dec.{ltb, eqb}
+use Rattle.lists.specs.Lists.{keep, mostOf, anyOf}
+use Rattle.model.specs.Entries.{freeEntry, isHeld, isKind, isPiece}
+use Rattle.model.specs.declared.Entry.{Entry}
+use Rattle.rules.specs.Share.{Grant, slotsFor, overfull, stepB}
+
+-- ---- F. one entry, with its step B slots b and its step C slots c
+-- owed falls by b, given grows by b and c, life and intervals left fall by one; kind 1 has a life alone
+unfoldable pub passed : (b c : ℕ) → Entry → Entry
+passed b c e =
+    let fraction = isKind 1 e in
+    record {
+      stream = e .stream;
+      kind = e .kind;
+      parts = e .parts;
+      period = e .period;
+      min = e .min;
+      max = e .max;
+      life = e .life;
+      «life_left» = record { 0 = e .«life_left» .0 - 1 };
+      owed = record { 0 = cond fraction 0 (e .owed .0 - b) };
+      given = record { 0 = cond fraction 0 (e .given .0 + b + c) };
+      left = record { 0 = cond fraction 0 (e .left .0 - 1) };
+    }
+
+-- the next period begins: owed = min, given = 0, intervals left = period
+unfoldable pub renewed : Entry → Entry
+renewed e =
+    record {
+      stream = e .stream;
+      kind = e .kind;
+      parts = e .parts;
+      period = e .period;
+      min = e .min;
+      max = e .max;
+      life = e .life;
+      «life_left» = e .«life_left»;
+      owed = e .min;
+      given = record { 0 = 0 };
+      left = e .period;
+    }
+
+-- an entry with life 0 leaves; a kind 2 entry with 0 intervals left begins its next period
+unfoldable pub settled : Entry → Entry
+settled e = cond (eqb (e .«life_left» .0) 0) freeEntry (cond (isKind 2 e && eqb (e .left .0) 0) (renewed e) e)
+
+-- a free place stays free, since its life is 0
+unfoldable pub stepF : (bs cs : List Grant) → List Entry → List Entry
+stepF bs cs es = map (λ (e : Entry). settled (passed (slotsFor (e .stream) bs) (slotsFor (e .stream) cs) e)) es
+
+-- ---- looking ahead: steps A, B and F, interval by interval
+-- a kind 2 or 3 request ends the interval of its deadline with owed above 0
+abbrev pub misses : List Grant → Entry → Bool
+misses bs e = isPiece e && (eqb (e .left .0) 1 && ltb (slotsFor (e .stream) bs) (e .owed .0))
+
+-- in none of n intervals is E negative, or a deadline missed
+unfoldable pub goesWell : (n B : ℕ) → List Entry → Bool
+goesWell zero B es = true
+goesWell (suc n) B es =
+    let bs = stepB B es in
+    let r = goesWell n B (keep isHeld (stepF bs [] es)) in
+    cond (overfull B es || anyOf (misses bs) es) false r
+
+-- until every life is used up
+unfoldable pub fitsAhead : ℕ → List Entry → Bool
+fitsAhead B es = goesWell (mostOf (λ (e : Entry). e .«life_left» .0) es) B es

@@ -1,0 +1,7 @@
+pub mod Share
+pub mod Slots
+pub mod Ahead
+pub mod Calls
+pub mod Window
+pub mod WellFormed
+pub mod Cases
