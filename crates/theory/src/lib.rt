@@ -1,0 +1,1 @@
+// Greedy service by earliest deadline under a capacity that varies with time: no code, see specs/.
