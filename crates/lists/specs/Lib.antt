@@ -3,3 +3,4 @@ pub mod Tests
 pub mod All
 pub mod Sums
 pub mod Picked
+pub mod Sorted

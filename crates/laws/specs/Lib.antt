@@ -1,0 +1,5 @@
+pub mod Grants
+pub mod Order
+pub mod Turns
+pub mod Extras
+pub mod Refusals
