@@ -1,0 +1,127 @@
+-- Demand 3, "What a list of calls gives" of document 01, as one statement over arguments, answers and plans: no table is named in it.
+-- B is the number of slots of an interval. docs/GUARANTEE.md reads it line by line. Assumes nothing.
+use mathlib.Core.Path.{_≡_}
+use mathlib.Core.Logic.{_⊎_, _↔_, _≢_}
+use mathlib.Core.Bool.{Bool, true, false, not, _&&_}
+use mathlib.Core.List.{List, [], _∷_, _++_}
+use mathlib.Core.Option.{Option, none, some}
+use Prim.Native.Nat.{ℕ, suc, _+_, _*_, _-_, _/_, _≤_, _<_}
+use lib.Dec.{ltb, leb, eqb}
+use lib.ListN.{length, getD}
+use Rattle.lists.specs.Lists.{within, one-if, sumOf, anyOf}
+use Rattle.lists.specs.All.{All}
+use Rattle.theory.specs.Time.{span}
+use Rattle.model.specs.Checks.{Check, check, refusal}
+use Rattle.model.specs.Requests.{streamInRange, fieldChecks}
+use Rattle.model.specs.declared.Request.{Request}
+use Rattle.rules.specs.Slots.{Run}
+use Rattle.rules.specs.Calls.{places, recordWords, mostRecords, opened}
+use Rattle.guarantee.specs.History.{Call, Offer, Seen, Offered, Withdrew, Planned, history, planSeen, answerSeen, lastSeen}
+use Rattle.guarantee.specs.Ledger.{Admission, Ledger, begins, isOf, ledgerOf}
+
+-- ---- what a plan gives
+-- a record gives its stream the slots from start to start + length - 1
+abbrev pub gives : Run → ℕ → Bool
+gives r x = leb (r .start) x && ltb x (r .start + r .length)
+
+-- how often a plan gives slot x; how often to stream s
+unfoldable pub timesGiven : ℕ → List Run → ℕ
+timesGiven x rs = sumOf (λ (r : Run). one-if (gives r x)) rs
+
+unfoldable pub givenTo : ℕ → ℕ → List Run → ℕ
+givenTo s x rs = sumOf (λ (r : Run). one-if (eqb (r .stream) s && gives r x)) rs
+
+-- the slots from a up to b of a plan that are given to stream s
+unfoldable pub slotsOf : (s a b : ℕ) → List Run → ℕ
+slotsOf s a b rs = span (λ x. givenTo s x rs) a b
+
+-- what an admission has had in its intervals from a up to b; those still to come count nothing
+unfoldable pub had : ℕ → Admission → (a b : ℕ) → ℕ
+had B h a b = span (λ k. slotsOf (h .request .stream) 0 B (getD (h .plans) k [])) a b
+
+-- ---- first half: each completed period, all of whose intervals are among those of the admission
+pub record Kept (B : ℕ) (h : Admission) : Type 0 where
+  -- kind 1: period j of each interval k, released at j times B/m, due at (j+1) times B/m
+  pub fractions :
+      h .request .kind ≡ 1 → (k j : ℕ) → k < length (h .plans) → j < h .request .period
+      → let T = B / h .request .period in
+      let n = slotsOf (h .request .stream) (j * T) (suc j * T) (getD (h .plans) k []) in
+      (h .request .min ≤ n) × (n ≤ h .request .max)
+  -- kind 2: period i is as many intervals as the period field says, straight after the one before
+  pub wholes :
+      h .request .kind ≡ 2 → (i : ℕ) → suc i * h .request .period ≤ length (h .plans)
+      → let n = had B h (i * h .request .period) (suc i * h .request .period) in
+      (h .request .min ≤ n) × (n ≤ h .request .max)
+  -- kind 3: one period up to the deadline, exactly its amount
+  pub transfer : h .request .kind ≡ 3 → h .request .period ≤ length (h .plans) → had B h 0 (h .request .period) ≡ h .request .min
+
+-- ---- assignments: each slot of each interval to come, counted from 0, goes to at most one stream
+abbrev pub Assignment : Type 0
+Assignment = ℕ → ℕ → Option ℕ
+
+abbrev pub isTo : ℕ → Option ℕ → Bool
+isTo s none = false
+isTo s (some x) = eqb x s
+
+-- the slots from x up to y of coming interval k that go to stream s
+unfoldable pub assigned : Assignment → (s k x y : ℕ) → ℕ
+assigned a s k x y = span (λ z. one-if (isTo s (a k z))) x y
+
+-- each period in its life that is not completed gets its minimum, less what it has had
+pub record Serves (B : ℕ) (a : Assignment) (h : Admission) : Type 0 where
+  -- kind 1: each period j of each coming interval k of its life
+  pub fractions :
+      h .request .kind ≡ 1 → (k j : ℕ) → length (h .plans) + k < h .request .life → j < h .request .period
+      → let T = B / h .request .period in
+      h .request .min ≤ assigned a (h .request .stream) k (j * T) (suc j * T)
+  -- kinds 2 and 3: period i, whose intervals still to come are those from now (interval length of plans) on
+  pub periods :
+      h .request .kind ≢ 1 → (i : ℕ) → suc i * h .request .period ≤ h .request .life → length (h .plans) < suc i * h .request .period
+      → h .request .min - had B h (i * h .request .period) (suc i * h .request .period)
+      ≤ span (λ k. assigned a (h .request .stream) k 0 B) (i * h .request .period - length (h .plans)) (suc i * h .request .period - length (h .plans))
+
+-- ---- answers
+-- the refusals of an offer but the last, as the admissions have them
+unfoldable pub offerChecks : ℕ → Ledger → Request → List Check
+offerChecks B l q =
+    check 10 (not (streamInRange (q .stream)))
+    ∷ check 11 (anyOf (isOf (q .stream)) (l .held))
+    ∷ (fieldChecks B q ++ (check 16 (leb places (length (l .held))) ∷ []))
+
+-- a call's answer is the one that the admissions before it ask for; where no other check refuses an offer, it is 0 or 17
+abbrev pub Right : ℕ → Ledger → Seen → Type 0
+Right B l (Offered q a) =
+    (refusal (offerChecks B l q) ≢ 0 → a ≡ refusal (offerChecks B l q))
+    × (refusal (offerChecks B l q) ≡ 0 → (a ≡ 0) ⊎ (a ≡ 17))
+Right B l (Withdrew s a) = a ≡ refusal (check 20 (not (anyOf (isOf s) (l .held))) ∷ [])
+Right B l (Planned n a rs) = a ≡ refusal (check 30 (ltb n (recordWords * mostRecords)) ∷ [])
+
+-- ---- the claim, of the calls cs from the table of a successful opening with u time units, and of any call that follows them
+module _ (u : ℕ) (cs : List Call) where
+  abbrev pub ledgerAfter : Ledger
+  ledgerAfter = ledgerOf (history (opened u) cs)
+
+  -- what is seen of a call that follows; its answer, if it is an offer
+  abbrev pub seenNext : Call → Seen
+  seenNext c = lastSeen (history (opened u) (cs ++ (c ∷ [])))
+
+  abbrev pub answerTo : Request → ℕ
+  answerTo q = answerSeen (seenNext (Offer q))
+
+  -- an assignment serves the minimums of all held requests and of the offered one, which counts as accepted
+  abbrev pub ServesAll : Request → Assignment → Type 0
+  ServesAll q a = All (Serves (1024 * u) a) (begins q ∷ ledgerAfter .held)
+
+  pub record Demand3 : Type 0 where
+    pub kept : All (Kept (1024 * u)) (ledgerAfter .held ++ ledgerAfter .past)
+    pub once : All (λ v. (x : ℕ) → timesGiven x (planSeen v) ≤ 1) (history (opened u) cs)
+    pub answers : (c : Call) → Right (1024 * u) ledgerAfter (seenNext c)
+    -- both directions as facts one can use: an assignment is there, or every assignment is refuted
+    pub accepted : (q : Request) → answerTo q ≡ 0 → (a : Assignment) × ServesAll q a
+    pub refused : (q : Request) → answerTo q ≡ 17 → (a : Assignment) → ServesAll q a → ⊥
+    pub exact :
+        (q : Request) → refusal (offerChecks (1024 * u) ledgerAfter q) ≡ 0
+        → (answerTo q ≡ 17) ↔ ((a : Assignment) → ServesAll q a → ⊥)
+
+abbrev pub Claim : Type 0
+Claim = (u : ℕ) → within 1 1000 u ≡ true → (cs : List Call) → Demand3 u cs
