@@ -78,7 +78,8 @@ pub record Serves (B : ℕ) (a : Assignment) (h : Admission) : Type 0 where
   pub periods :
       h .request .kind ≢ 1 → (i : ℕ) → suc i * h .request .period ≤ h .request .life → length (h .plans) < suc i * h .request .period
       → h .request .min - had B h (i * h .request .period) (suc i * h .request .period)
-      ≤ span (λ k. assigned a (h .request .stream) k 0 B) (i * h .request .period - length (h .plans)) (suc i * h .request .period - length (h .plans))
+      ≤ span (λ k. assigned a (h .request .stream) k 0 B) (i * h .request .period - length (h .plans))
+      (suc i * h .request .period - length (h .plans))
 
 -- ---- answers
 -- the refusals of an offer but the last, as the admissions have them

@@ -60,7 +60,10 @@ extra-le L W d =
 extras-fit : (L : ℕ) (t d : Entry → ℕ) (es : List Entry) → sumOf (λ e. t e * extra L (sumOf (λ e. t e * d e) es) (d e)) es ≤ L
 extras-fit L t d es =
     elim (ℕ-discrete L 0) [
-      | yes z ↦ omega (arith, sum-zero (λ e. t e * extra L W (d e)) (all-of es (λ e. ap (λ v. t e * v) (extra-none L W (d e) z) ∙ mul-zero (t e))))
+      | yes z ↦ omega (
+        arith,
+        sum-zero (λ e. t e * extra L W (d e)) (all-of es (λ e. ap (λ v. t e * v) (extra-none L W (d e) z) ∙ mul-zero (t e))),
+      )
       | no z ↦ elim (decLe W L) [
         | yes q ↦ omega (
           arith,
@@ -106,7 +109,8 @@ module _ (B : ℕ) (es : List Entry) (w : Once es) where
       elim (ℕ-discrete (remains B es) 0) [
         | yes z ↦ all-map (λ e h q. inl (h ∙ extra-none (remains B es) (weight (stepB B es) es) (headroomOf B es e) z)) stepC-of
         | no z ↦ all-zip (λ e h t q. inr (paid e q (h q) t)) (stepB-within B es w)
-            (sum-tight got owed (all-map (λ e h. cut e (isPiece e) h) (stepB-within B es w)) (omega (arith, stepB-total B es w, remains-rest B es w)))
+            (sum-tight got owed (all-map (λ e h. cut e (isPiece e) h) (stepB-within B es w))
+            (omega (arith, stepB-total B es w, remains-rest B es w)))
       ]
     where
       got : Entry → ℕ
@@ -129,7 +133,8 @@ module _ (B : ℕ) (es : List Entry) (w : Once es) where
   needs-fit k l =
       omega (
         arith,
-        sum-ext (λ e. jobCount e * jobNeed (stepB B es) (stepC B es) e) (λ e. (least e + piece e) + extras e) (all-map (λ e h. parts e (isKind 1 e) (isPiece e) h) k),
+        sum-ext (λ e. jobCount e * jobNeed (stepB B es) (stepC B es) e) (λ e. (least e + piece e) + extras e)
+            (all-map (λ e h. parts e (isKind 1 e) (isPiece e) h) k),
         sum-add (λ e. least e + piece e) extras es,
         sum-add least piece es,
         stepC-total,

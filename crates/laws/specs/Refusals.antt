@@ -12,7 +12,8 @@ use Rattle.model.specs.Entries.{freeEntry, isStream}
 use Rattle.model.specs.declared.Entry.{Entry}
 use Rattle.model.specs.declared.Request.{Request}
 use Rattle.model.specs.declared.Table.{Table}
-use Rattle.rules.specs.Calls.{recordWords, mostRecords, holds, offerAnswer, offered, heldAnswer, withdrawn, planOf, refusedBeacon, plannedBeacon, beacon}
+use Rattle.rules.specs.Calls.{recordWords, mostRecords, planOf, refusedBeacon, plannedBeacon, beacon}
+use Rattle.rules.specs.Calls.{holds, offerAnswer, offered, heldAnswer, withdrawn}
 
 pub refused-offer : (t : Table) (q : Request) → offerAnswer t q ≢ 0 → offered t q ≡ t
 unfolding offered

@@ -60,7 +60,8 @@ turns-take r (e ∷ es) w =
     let rest : List Grant = take-turns (r - t) es in
     take (slots-here (e .stream) t rest)
     (subst (λ v. Takes owing (λ f. slotsFor (f .stream) (grant (e .stream) t ∷ rest)) (r - v) es) (sym (slots-here (e .stream) t rest))
-    (takes-ext (all-map (λ f n. sym (slots-there (e .stream) t (f .stream) rest n)) (once-apart e es w)) (turns-take (r - t) es (once-tail e es w))))
+    (takes-ext (all-map (λ f n. sym (slots-there (e .stream) t (f .stream) rest n)) (once-apart e es w))
+    (turns-take (r - t) es (once-tail e es w))))
 
 sorted-rising : {es : List Entry} → Sorted sooner es → Rising owing es
 sorted-rising none = flat
@@ -116,7 +117,8 @@ owedBefore x es = sumOf (λ (f : Entry). cond (isPiece f) (cond (sooner f x) (f 
 
 -- in a sorted list: nobody comes before the first, and the first comes before all others
 turns-closed : (r : ℕ) (es : List Entry) → Sorted sooner es → Once es
-    → All (λ x. slotsFor (x .stream) (take-turns r es) ≡ min (x .owed .0) (r - sumOf (λ (f : Entry). cond (sooner f x) (f .owed .0) 0) es)) es
+    → All (λ x. slotsFor (x .stream) (take-turns r es)
+    ≡ min (x .owed .0) (r - sumOf (λ (f : Entry). cond (sooner f x) (f .owed .0) 0) es)) es
 unfolding take-turns
 turns-closed r [] o w = stop
 turns-closed r (e ∷ es) (first a o) w =
@@ -125,7 +127,8 @@ turns-closed r (e ∷ es) (first a o) w =
       arith,
       slots-here (e .stream) t rest,
       ap (λ b. cond b (e .owed .0) 0) (sooner-not-self e),
-      sum-zero (λ (f : Entry). cond (sooner f e) (f .owed .0) 0) (all-map (λ f h. ap (λ b. cond b (f .owed .0) 0) (sooner-not-back e f h)) a),
+      sum-zero (λ (f : Entry). cond (sooner f e) (f .owed .0) 0)
+          (all-map (λ f h. ap (λ b. cond b (f .owed .0) 0) (sooner-not-back e f h)) a),
     ))
     (all-zip (λ x h k. one x (h .0) (h .1) k)
     (all-zip {R = λ x. (sooner e x ≡ true) × (eqb (e .stream) (x .stream) ≡ false)} (λ x h k. (h, k)) a (once-apart e es w))

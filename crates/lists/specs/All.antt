@@ -76,7 +76,8 @@ module _ {A : Type 0} where
   all-uninsert P before x [] h = (head h, stop)
   all-uninsert P before x (y ∷ ys) h = go (before x y) h (all-uninsert P before x ys)
     where
-      go : (b : Bool) → All P (cond b (x ∷ y ∷ ys) (y ∷ insert before x ys)) → (All P (insert before x ys) → P x × All P ys) → P x × All P (y ∷ ys)
+      go : (b : Bool) → All P (cond b (x ∷ y ∷ ys) (y ∷ insert before x ys)) → (All P (insert before x ys) → P x × All P ys)
+          → P x × All P (y ∷ ys)
       go true h w = (head h, tail h)
       go false h w = (w (tail h) .0, and (head h) (w (tail h) .1))
 

@@ -3,7 +3,8 @@ use Prim.Native.Nat.{ℕ}
 use mathlib.Core.Bool.{Bool, cond}
 use mathlib.Core.List.{List, [], _∷_}
 use Rattle.model.specs.declared.OfferAnswer.{OfferAnswer}
-use Rattle.model.specs.declared.OfferAnswer.the-variants.{Accepted, StreamOutside, StreamHeld, KindUnknown, PeriodOutside, AmountsOutside, LifeOutside, TableFull, NoTime}
+use Rattle.model.specs.declared.OfferAnswer.the-variants.{Accepted, StreamOutside, StreamHeld, KindUnknown}
+use Rattle.model.specs.declared.OfferAnswer.the-variants.{PeriodOutside, AmountsOutside, LifeOutside, TableFull, NoTime}
 
 -- a row of the table of refusals: its number, and whether its condition holds
 pub record Check : Type 0 where

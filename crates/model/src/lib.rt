@@ -141,7 +141,8 @@ impl FractionStream {
     }
 
     pub fn check(self, interval: Slots) -> OfferAnswer
-        ensures { λ r. ⌜ offerNumber r ≡ refusal (fractionChecks (interval .0) (self .parts) (self .min .0) (self .max .0) (self .life .0)) ⌝ }
+        ensures { λ r. ⌜ offerNumber r ≡ refusal (fractionChecks
+            (interval .0) (self .parts) (self .min .0) (self .max .0) (self .life .0)) ⌝ }
     {
         let period = self.period_in_range(interval);
         let amounts = self.amounts_in_range(interval);
@@ -194,7 +195,8 @@ impl WholeStream {
     }
 
     pub fn check(self, interval: Slots) -> OfferAnswer
-        ensures { λ r. ⌜ offerNumber r ≡ refusal (wholeChecks (interval .0) (self .period .0) (self .min .0) (self .max .0) (self .life .0)) ⌝ }
+        ensures { λ r. ⌜ offerNumber r ≡ refusal (wholeChecks
+            (interval .0) (self .period .0) (self .min .0) (self .max .0) (self .life .0)) ⌝ }
     {
         let period = self.period_in_range();
         let amounts = self.amounts_in_range(interval);
@@ -245,7 +247,8 @@ impl Transfer {
     }
 
     pub fn check(self) -> OfferAnswer
-        ensures { λ r. ⌜ offerNumber r ≡ refusal (transferChecks (self .deadline .0) (self .amount .0) (self .reserved .0) (self .life .0)) ⌝ }
+        ensures { λ r. ⌜ offerNumber r ≡ refusal (transferChecks
+            (self .deadline .0) (self .amount .0) (self .reserved .0) (self .life .0)) ⌝ }
     {
         let period = self.period_in_range();
         let amounts = self.amounts_in_range();

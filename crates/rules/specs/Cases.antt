@@ -14,7 +14,8 @@ use Rattle.model.specs.declared.Table.{Table}
 use Rattle.rules.specs.Share.{Grant, load, slotsFor, order, take-turns, stepB, remains, weight, extra, stepC}
 use Rattle.rules.specs.Slots.{jobsFrom, tieOrder, jobs, choose, slotsFrom, stepD, prepend, runsFrom, stepE}
 use Rattle.rules.specs.Ahead.{passed, renewed, settled, stepF, goesWell, fitsAhead}
-use Rattle.rules.specs.Calls.{openAnswer, opened, heldOf, offerAnswer, placed, offered, heldAnswer, withdrawn, wordsOf, planOf, advanced, Beacon, beacon}
+use Rattle.rules.specs.Calls.{openAnswer, opened, heldOf, offerAnswer, placed, offered, heldAnswer, withdrawn}
+use Rattle.rules.specs.Calls.{wordsOf, planOf, advanced, Beacon, beacon}
 use Rattle.rules.specs.Window.{startsOf, rises, before, windowAnswer, windowPart}
 
 -- a call, or a look at the figures of the next step C: L, W, then each request's stream and extra
@@ -156,5 +157,10 @@ abbrev start : State
 start = record { table = opened 1; words = replicate 4096 0; count = 0 }
 
 pub cases-right : plays start cases ≡ true
-unfolding refusal fieldChecks entryOf load slotsFor order take-turns stepB remains weight extra stepC jobsFrom tieOrder jobs choose slotsFrom stepD prepend runsFrom stepE passed renewed settled stepF goesWell fitsAhead openAnswer opened offerAnswer placed offered heldAnswer withdrawn wordsOf planOf advanced beacon startsOf rises before windowAnswer windowPart
+unfolding refusal fieldChecks entryOf
+    load slotsFor order take-turns stepB remains weight extra stepC
+    jobsFrom tieOrder jobs choose slotsFrom stepD prepend runsFrom stepE
+    passed renewed settled stepF goesWell fitsAhead
+    openAnswer opened offerAnswer placed offered heldAnswer withdrawn wordsOf planOf advanced beacon
+    startsOf rises before windowAnswer windowPart
 cases-right = refl

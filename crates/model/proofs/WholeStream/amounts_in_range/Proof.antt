@@ -11,7 +11,9 @@ cast-slots : tie.Need-cast-slots
 cast-slots c = search needs
 
 mul-amounts-in-order : tie.Need-mul-amounts-in-order
-mul-amounts-in-order c = record { fits = product-fits (c .before .before .args .self .period .0) (c .before .before .args .interval .0) (omega arith) (omega arith) }
+mul-amounts-in-order c =
+    let a = c .before .before .args in
+    record { fits = product-fits (a .self .period .0) (a .interval .0) (omega arith) (omega arith) }
 
 amounts-in-order-requires : tie.Need-amounts-in-order-requires
 amounts-in-order-requires c κs = search needs
