@@ -2,19 +2,18 @@
 -- B is the number of slots of an interval. docs/GUARANTEE.md reads it line by line. Assumes nothing.
 use mathlib.Core.Path.{_≡_}
 use mathlib.Core.Logic.{_⊎_, _↔_, _≢_}
-use mathlib.Core.Bool.{Bool, true, false, not, _&&_}
+use mathlib.Core.Bool.{Bool, true, not, _&&_}
 use mathlib.Core.List.{List, [], _∷_, _++_}
-use mathlib.Core.Option.{Option, none, some}
 use Prim.Native.Nat.{ℕ, suc, _+_, _*_, _-_, _/_, _≤_, _<_}
 use lib.Dec.{ltb, leb, eqb}
 use lib.ListN.{length, getD}
-use Rattle.lists.specs.Lists.{within, one-if, sumOf, anyOf}
+use Rattle.lists.specs.Lists.{within, one-if, sumOf, anyOf, span}
 use Rattle.lists.specs.All.{All}
-use Rattle.theory.specs.Time.{span}
 use Rattle.model.specs.Checks.{Check, check, refusal}
 use Rattle.model.specs.Requests.{streamInRange, fieldChecks}
 use Rattle.model.specs.declared.Request.{Request}
 use Rattle.rules.specs.Slots.{Run}
+use Rattle.rules.specs.Assignment.{Assignment, assigned}
 use Rattle.rules.specs.Calls.{places, recordWords, mostRecords, opened}
 use Rattle.guarantee.specs.History.{Call, Offer, Seen, Offered, Withdrew, Planned, history, planSeen, answerSeen, lastSeen}
 use Rattle.guarantee.specs.Ledger.{Admission, Ledger, begins, isOf, ledgerOf}
@@ -55,18 +54,7 @@ pub record Kept (B : ℕ) (h : Admission) : Type 0 where
   -- kind 3: one period up to the deadline, exactly its amount
   pub transfer : h .request .kind ≡ 3 → h .request .period ≤ length (h .plans) → had B h 0 (h .request .period) ≡ h .request .min
 
--- ---- assignments: each slot of each interval to come, counted from 0, goes to at most one stream
-abbrev pub Assignment : Type 0
-Assignment = ℕ → ℕ → Option ℕ
-
-abbrev pub isTo : ℕ → Option ℕ → Bool
-isTo s none = false
-isTo s (some x) = eqb x s
-
--- the slots from x up to y of coming interval k that go to stream s
-unfoldable pub assigned : Assignment → (s k x y : ℕ) → ℕ
-assigned a s k x y = span (λ z. one-if (isTo s (a k z))) x y
-
+-- ---- second half: what an assignment of the coming slots owes an admission
 -- each period in its life that is not completed gets its minimum, less what it has had
 pub record Serves (B : ℕ) (a : Assignment) (h : Admission) : Type 0 where
   -- kind 1: each period j of each coming interval k of its life

@@ -1,5 +1,5 @@
--- Lists and tests: what the definitions of document 01 are written with. Assumes nothing.
-use Prim.Native.Nat.{ℕ, _+_, max}
+-- Lists, tests and sums: what the definitions of document 01 are written with. Assumes nothing.
+use Prim.Native.Nat.{ℕ, zero, suc, _+_, max}
 use mathlib.Core.Bool.{Bool, true, false, cond, _&&_, _||_}
 use mathlib.Core.List.{List, [], _∷_, _++_}
 use lib.Dec.{leb}
@@ -11,6 +11,13 @@ within a b x = leb a x && leb x b
 -- 1 where the test passes, to count by a sum
 abbrev pub one-if : Bool → ℕ
 one-if b = cond b 1 0
+
+-- c s + .. + c (d-1), and 0 where d ≤ s
+abbrev pub span : (ℕ → ℕ) → ℕ → ℕ → ℕ
+span c zero zero = 0
+span c zero (suc d) = c 0 + span (λ u. c (suc u)) 0 d
+span c (suc s) zero = 0
+span c (suc s) (suc d) = span (λ u. c (suc u)) s d
 
 module _ {A : Type 0} where
   abbrev pub cons-if : Bool → A → List A → List A

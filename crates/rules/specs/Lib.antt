@@ -3,5 +3,6 @@ pub mod Slots
 pub mod Ahead
 pub mod Calls
 pub mod Window
+pub mod Assignment
 pub mod WellFormed
 pub mod Cases

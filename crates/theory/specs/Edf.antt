@@ -6,10 +6,10 @@ use mathlib.Core.List.{List}
 use Prim.Native.Nat.{ℕ, zero, suc, _+_, _-_, _≤_, min, zero-le}
 use native.Mathlib.Nat.{zero-add, suc-add, le-of-eq}
 use native.Mathlib.Omega.{arith}
-use Rattle.lists.specs.Lists.{sumOf}
+use Rattle.lists.specs.Lists.{sumOf, span}
 use Rattle.lists.specs.All.{All, all-map, all-of}
 use Rattle.lists.specs.Sums.{sum-ext, sum-le, sum-add, each-in-sum, sum-tight}
-use Rattle.theory.specs.Time.{span, due, due-in, due-le, due-mono, due-add}
+use Rattle.theory.specs.Time.{due, due-in, due-le, due-mono, due-add}
 
 -- rem: still owed for the current job; left: the time to its deadline;
 -- need: what each later job asks; period: the length of each; jobs: how many follow, the first when the current one is due

@@ -7,10 +7,10 @@ use Prim.Native.Nat.{ℕ, zero, suc, _+_, _*_, _≤_, _<_, max, zero-le}
 use native.Mathlib.Nat.{zero-add, suc-add}
 use native.Mathlib.Decide.{decLe}
 use native.Mathlib.Omega.{arith}
-use Rattle.lists.specs.Lists.{sumOf}
+use Rattle.lists.specs.Lists.{sumOf, span}
 use Rattle.lists.specs.All.{All, all-map}
 use Rattle.lists.specs.Sums.{sum-le}
-use Rattle.theory.specs.Time.{span, due, due-in, due-out, due-le, span-le, span-join, span-anti, span-sum}
+use Rattle.theory.specs.Time.{due, due-in, due-out, due-le, span-le, span-join, span-anti, span-sum}
 use Rattle.theory.specs.Edf.{Source, source, rem, left, gone, next, later, dem, Room}
 use Rattle.theory.specs.Converse.{Sound}
 

@@ -8,16 +8,9 @@ use Prim.Native.Nat.{ℕ, zero, suc, _+_, _*_, _-_, _≤_, _<_, zero-le}
 use native.Mathlib.Nat.{le-refl}
 use native.Mathlib.Decide.{decLe}
 use native.Mathlib.Omega.{arith}
-use Rattle.lists.specs.Lists.{sumOf}
+use Rattle.lists.specs.Lists.{sumOf, span}
 use Rattle.lists.specs.All.{all-of}
 use Rattle.lists.specs.Sums.{sum-add, sum-zero}
-
--- c s + .. + c (d-1), and 0 where d ≤ s
-abbrev pub span : (ℕ → ℕ) → ℕ → ℕ → ℕ
-span c zero zero = 0
-span c zero (suc d) = c 0 + span (λ u. c (suc u)) 0 d
-span c (suc s) zero = 0
-span c (suc s) (suc d) = span (λ u. c (suc u)) s d
 
 -- v if l ≤ d, else 0
 abbrev pub due : ℕ → ℕ → ℕ → ℕ
