@@ -14,7 +14,7 @@ use Rattle.model.specs.Entries.{isHeld, isKind, isPiece, entryOf, requestOf}
 use Rattle.model.specs.declared.Entry.{Entry}
 use Rattle.model.specs.declared.Request.{Request}
 use Rattle.rules.specs.WellFormed.{Held, Running}
-use Rattle.laws.specs.Fields.{FractionFields, WholeFields, TransferFields, Fields, fraction, whole, transfer, fields-of}
+use Rattle.laws.specs.Fields.{FractionFields, Fields, fraction, whole, transfer, fields-of}
 
 -- kind 1: it has a life, and no period of intervals
 pub record Fraction (B : ℕ) (e : Entry) : Type 0 where
