@@ -1,3 +1,6 @@
+pub mod Fields
+pub mod Held
+pub mod Settled
 pub mod Grants
 pub mod Order
 pub mod Turns
