@@ -1,3 +1,4 @@
 pub mod Fields
 pub mod Held
 pub mod Settled
+pub mod Sources
