@@ -1,6 +1,7 @@
 pub mod Fields
 pub mod Held
 pub mod Settled
+pub mod Sources
 pub mod Grants
 pub mod Order
 pub mod Turns
