@@ -27,6 +27,9 @@ module _ {A : Type 0} where
   all-zip f stop k = stop
   all-zip f (and {x = y} p h) k = and (f y p (head k)) (all-zip f h (tail k))
 
+  pub all-both : {P Q : A → Type 0} {xs : List A} → All P xs → All Q xs → All (λ x. P x × Q x) xs
+  all-both h k = all-zip (λ x p q. (p, q)) h k
+
   -- what holds of everything
   pub all-of : {P : A → Type 0} (xs : List A) → ((x : A) → P x) → All P xs
   all-of [] f = stop
