@@ -1,3 +1,4 @@
 pub mod Moved
 pub mod Fits
 pub mod Exact
+pub mod Formed

@@ -7,3 +7,4 @@ pub mod Order
 pub mod Turns
 pub mod Extras
 pub mod Refusals
+pub mod Offers
