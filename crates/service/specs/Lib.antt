@@ -1,0 +1,5 @@
+pub mod Choice
+pub mod Service
+pub mod Meets
+pub mod Cuts
+pub mod Runs
