@@ -1,3 +1,4 @@
 pub mod History
 pub mod Ledger
 pub mod Demand
+pub mod Had
