@@ -2,3 +2,4 @@ pub mod History
 pub mod Ledger
 pub mod Demand
 pub mod Had
+pub mod Link
