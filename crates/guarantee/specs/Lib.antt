@@ -3,3 +3,4 @@ pub mod Ledger
 pub mod Demand
 pub mod Had
 pub mod Link
+pub mod Grown

@@ -2,19 +2,19 @@
 -- plans, and what it was given is what the plans gave it in the period that runs. So it is where a request begins.
 -- B is the number of slots of an interval. Assumes nothing.
 use mathlib.Core.Path.{_≡_, sym, ap, _∙_}
-use mathlib.Core.Logic.{_≢_}
+use mathlib.Core.Logic.{inl, inr, _≢_}
 use Prim.Native.Nat.{ℕ, suc, _+_, _*_, _≤_, _<_, zero-le}
 use native.Mathlib.Nat.{lt-of-mul-lt-mul-right}
 use native.Mathlib.Omega.{arith}
 use lib.ListN.{length}
-use borrow.Author.Tests.{eq-eqb, ne-eqb}
+use borrow.Author.Tests.{eqb-false, eq-eqb, ne-eqb}
 use Rattle.model.specs.Requests.{fieldsAnswer}
 use Rattle.model.specs.Entries.{entryOf, requestOf}
 use Rattle.model.specs.declared.Entry.{Entry}
 use Rattle.model.specs.declared.Request.{Request}
 use Rattle.rules.specs.WellFormed.{Held}
 use Rattle.laws.specs.Fields.{Fields, fraction, whole, transfer, fields-of}
-use Rattle.laws.specs.Held.{Piece, request-back}
+use Rattle.laws.specs.Held.{Piece, held-kinds, not-fraction, request-back}
 use Rattle.guarantee.specs.Ledger.{Admission, begins}
 use Rattle.guarantee.specs.Demand.{had, Kept}
 use Rattle.guarantee.specs.Had.{had-none}
@@ -54,6 +54,12 @@ holds e r =
     }
 
 -- ---- the period that runs, of a piece
+pub piece-other : {B : ℕ} {e : Entry} → Piece B e → e .kind ≢ 1
+piece-other {e = e} p = eqb-false (e .kind) 1 (not-fraction e (p .kind))
+
+pub other-piece : {B : ℕ} {e : Entry} → Held B e → e .kind ≢ 1 → Piece B e
+other-piece d n = elim (held-kinds d) [ inl f ↦ absurd (n (f .kind)) | inr p ↦ p ]
+
 module _ {B : ℕ} {h : Admission} {e : Entry} (p : Piece B e) (r : Runs B h e) where
   -- it has begun, and is not over
   pub run-begun : r .nth * e .period .0 ≤ length (h .plans)
