@@ -4,3 +4,4 @@ pub mod Demand
 pub mod Had
 pub mod Link
 pub mod Grown
+pub mod Serving
