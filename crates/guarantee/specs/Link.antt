@@ -1,7 +1,7 @@
 -- One admission and its entry of the table: the entry holds the request, its life and its intervals left are told by the number of
--- plans, and what it was given is what the plans gave it in the period that runs. So it is where a request begins.
--- B is the number of slots of an interval. Assumes nothing.
-use mathlib.Core.Path.{_≡_, sym, ap, _∙_}
+-- plans, and what it was given is what the plans gave it in the period that runs. So it is when a request is accepted, and then no
+-- period is completed. B is the number of slots of an interval. Assumes nothing.
+use mathlib.Core.Path.{_≡_, refl, sym, ap}
 use mathlib.Core.Logic.{inl, inr, _≢_}
 use Prim.Native.Nat.{ℕ, suc, _+_, _*_, _≤_, _<_, zero-le}
 use native.Mathlib.Nat.{lt-of-mul-lt-mul-right}
@@ -25,12 +25,13 @@ pub record Runs (B : ℕ) (h : Admission) (e : Entry) : Type 0 where
   pub ends : length (h .plans) + e .left .0 ≡ suc nth * e .period .0
   pub given : e .given .0 ≡ had B h (nth * e .period .0) (suc nth * e .period .0)
 
+-- the entry holds the request, and its life left and the plans so far make up the life
 pub record Linked (B : ℕ) (h : Admission) (e : Entry) : Type 0 where
   pub request : requestOf e ≡ h .request
   pub life : e .«life_left» .0 + length (h .plans) ≡ h .request .life
   pub runs : e .kind ≢ 1 → Runs B h e
 
--- ---- the fields of an entry that holds a request
+-- ---- the fields of an entry that holds a request; the period field is its parts or its period, by kind
 pub record Holds (e : Entry) (q : Request) : Type 0 where
   pub stream : e .stream ≡ q .stream
   pub kind : e .kind ≡ q .kind
@@ -53,13 +54,26 @@ holds e r =
       life = ap (λ (x : Request). x .life) r;
     }
 
--- ---- the period that runs, of a piece
+-- ---- kinds 2 and 3
 pub piece-other : {B : ℕ} {e : Entry} → Piece B e → e .kind ≢ 1
 piece-other {e = e} p = eqb-false (e .kind) 1 (not-fraction e (p .kind))
 
 pub other-piece : {B : ℕ} {e : Entry} → Held B e → e .kind ≢ 1 → Piece B e
 other-piece d n = elim (held-kinds d) [ inl f ↦ absurd (n (f .kind)) | inr p ↦ p ]
 
+-- the life of a transfer is its period
+transfer-life : {B : ℕ} {e : Entry} → Held B e → e .kind ≡ 3 → e .life .0 ≡ e .period .0
+transfer-life {B} {e} d k = go (fields-of B (requestOf e) (d .fields))
+  where
+    s : Holds e (requestOf e)
+    s = holds e refl
+
+    go : Fields B (requestOf e) → e .life .0 ≡ e .period .0
+    go (fraction f) = absurd (omega (arith, s .kind))
+    go (whole f) = absurd (omega (arith, s .kind))
+    go (transfer f) = omega (arith, f .life-once, s .life, s .period (λ z. omega arith))
+
+-- ---- the period that runs
 module _ {B : ℕ} {h : Admission} {e : Entry} (p : Piece B e) (r : Runs B h e) where
   -- it has begun, and is not over
   pub run-begun : r .nth * e .period .0 ≤ length (h .plans)
@@ -77,20 +91,13 @@ module _ {B : ℕ} {h : Admission} {e : Entry} (p : Piece B e) (r : Runs B h e) 
         lt-of-mul-lt-mul-right (e .period .0) {m = r .nth} {n = suc i} (omega (arith, run-begun)),
       )
 
-  -- a transfer has one alone: its life is its period
+  -- a transfer has the first alone
   pub run-transfer : Held B e → Linked B h e → e .kind ≡ 3 → r .nth ≡ 0
   run-transfer d l k =
-      let s = holds e (l .request) in
-      let life : h .request .life ≡ h .request .period =
-      go (fields-of B (h .request) (ap (fieldsAnswer B) (sym (l .request)) ∙ d .fields)) in
-      sym (run-only 0 (omega arith) (omega (arith, s .period (λ z. omega arith), ap (λ v. v * e .period .0) (p .once k))))
-    where
-      go : Fields B (h .request) → h .request .life ≡ h .request .period
-      go (fraction f) = absurd (omega (arith, holds e (l .request)))
-      go (whole f) = absurd (omega (arith, holds e (l .request)))
-      go (transfer f) = f .life-once
+      let none = ap (λ v. v * e .period .0) (p .once k) in
+      sym (run-only 0 (omega arith) (omega (arith, transfer-life d k, holds e (l .request) .life)))
 
--- ---- where a request begins
+-- ---- when a request is accepted
 pub begins-linked : (B : ℕ) (q : Request) → Linked B (begins q) (entryOf q)
 unfolding entryOf
 begins-linked B q =
