@@ -19,13 +19,13 @@ use Rattle.rules.specs.Slots.{Run}
 use Rattle.rules.specs.Share.{headroom}
 use Rattle.rules.specs.Ahead.{passed, renewed}
 use Rattle.rules.specs.WellFormed.{Held}
-use Rattle.laws.specs.Held.{Fraction, Piece, held-kinds, held-is, piece-of, not-fraction}
+use Rattle.laws.specs.Held.{Fraction, Piece, held-kinds, held-is, piece-of, not-fraction, piece-other}
 use Rattle.laws.specs.Settled.{after, Granted, after-last, after-life, after-request}
-use Rattle.laws.specs.Settled.{PieceFate, over, anew, on, piece-fate, headroom-whole, headroom-transfer}
+use Rattle.laws.specs.Settled.{PieceFate, over, anew, on, piece-fate, headroom-whole, headroom-transfer, headroom-fraction}
 use Rattle.guarantee.specs.Ledger.{Admission, grown, lasts}
 use Rattle.guarantee.specs.Demand.{slotsOf, had, Kept}
 use Rattle.guarantee.specs.Had.{grown-length, grown-last, grown-other, had-old, had-new, had-none}
-use Rattle.guarantee.specs.Link.{Runs, Linked, holds, piece-other, run-begun, run-open, run-only, run-transfer}
+use Rattle.guarantee.specs.Link.{Runs, Linked, holds, run-begun, run-open, run-only, run-transfer}
 
 -- what the plan rs of an interval gives an entry, in which it has b slots of step B and c slots of step C: a fraction stream has its
 -- minimum and c in each part of the interval, a piece has b and c in all, and a piece whose deadline it is has all that it is owed
@@ -36,9 +36,6 @@ pub record Gets (B b c : ℕ) (rs : List Run) (e : Entry) : Type 0 where
   pub piece : e .kind ≢ 1 → slotsOf (e .stream) 0 B rs ≡ b + c
   pub granted : Granted b c e
   pub meets : e .kind ≢ 1 → e .left .0 ≡ 1 → e .owed .0 ≤ b
-
-headroom-fraction : (e : Entry) (b : ℕ) → e .kind ≡ 1 → headroom e b ≡ e .max .0 - e .min .0
-headroom-fraction e b k = rw k
 
 -- ---- whether it lasts
 module _ (b c : ℕ) {B : ℕ} {h : Admission} {e : Entry} (l : Linked B h e) where
@@ -114,7 +111,7 @@ module _ {B b c : ℕ} {rs : List Run} {h : Admission} {e : Entry} (p : Piece B 
   kept-transfer : Held B e → e .kind ≡ 3 → e .period .0 ≤ suc (length (h .plans)) → had B (grown rs h) 0 (e .period .0) ≡ e .min .0
   kept-transfer d k w =
       let r = l .runs other in
-      let z = run-transfer p r d l k in
+      let z = run-transfer p r l k in
       let ends : length (h .plans) + e .left .0 ≡ e .period .0 = omega (arith, rw z at (r .ends)) in
       rw (zero-mul (e .period .0), one-mul (e .period .0)) at (rw z at (run-has r)) ∙ run-exact k (omega (arith, p .ahead))
 

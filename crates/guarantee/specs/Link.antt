@@ -54,25 +54,6 @@ holds e r =
       life = ap (λ (x : Request). x .life) r;
     }
 
--- ---- kinds 2 and 3
-pub piece-other : {B : ℕ} {e : Entry} → Piece B e → e .kind ≢ 1
-piece-other {e = e} p = eqb-false (e .kind) 1 (not-fraction e (p .kind))
-
-pub other-piece : {B : ℕ} {e : Entry} → Held B e → e .kind ≢ 1 → Piece B e
-other-piece d n = elim (held-kinds d) [ inl f ↦ absurd (n (f .kind)) | inr p ↦ p ]
-
--- the life of a transfer is its period
-transfer-life : {B : ℕ} {e : Entry} → Held B e → e .kind ≡ 3 → e .life .0 ≡ e .period .0
-transfer-life {B} {e} d k = go (fields-of B (requestOf e) (d .fields))
-  where
-    s : Holds e (requestOf e)
-    s = holds e refl
-
-    go : Fields B (requestOf e) → e .life .0 ≡ e .period .0
-    go (fraction f) = absurd (omega (arith, s .kind))
-    go (whole f) = absurd (omega (arith, s .kind))
-    go (transfer f) = omega (arith, f .life-once, s .life, s .period (λ z. omega arith))
-
 -- ---- the period that runs
 module _ {B : ℕ} {h : Admission} {e : Entry} (p : Piece B e) (r : Runs B h e) where
   -- it has begun, and is not over
@@ -92,10 +73,10 @@ module _ {B : ℕ} {h : Admission} {e : Entry} (p : Piece B e) (r : Runs B h e) 
       )
 
   -- a transfer has the first alone
-  pub run-transfer : Held B e → Linked B h e → e .kind ≡ 3 → r .nth ≡ 0
-  run-transfer d l k =
+  pub run-transfer : Linked B h e → e .kind ≡ 3 → r .nth ≡ 0
+  run-transfer l k =
       let none = ap (λ v. v * e .period .0) (p .once k) in
-      sym (run-only 0 (omega arith) (omega (arith, transfer-life d k, holds e (l .request) .life)))
+      sym (run-only 0 (omega arith) (omega (arith, p .life-once k, holds e (l .request) .life)))
 
 -- ---- when a request is accepted
 pub begins-linked : (B : ℕ) (q : Request) → Linked B (begins q) (entryOf q)

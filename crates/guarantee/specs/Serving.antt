@@ -12,11 +12,11 @@ use Rattle.lists.specs.Lists.{span}
 use Rattle.model.specs.declared.Entry.{Entry}
 use Rattle.rules.specs.WellFormed.{Held}
 use Rattle.rules.specs.Assignment.{Assignment, assigned, ServesEntry}
-use Rattle.laws.specs.Held.{Piece}
+use Rattle.laws.specs.Held.{Piece, other-piece}
 use Rattle.guarantee.specs.Ledger.{Admission}
 use Rattle.guarantee.specs.Demand.{had, Serves}
 use Rattle.guarantee.specs.Had.{had-none}
-use Rattle.guarantee.specs.Link.{Runs, Linked, Holds, holds, other-piece, run-begun, run-open, run-only}
+use Rattle.guarantee.specs.Link.{Runs, Linked, Holds, holds, run-begun, run-open, run-only}
 
 -- ---- the periods of a piece, where coming interval k gives it to k slots
 module _ {B : ℕ} {h : Admission} {e : Entry} (p : Piece B e) (r : Runs B h e) (to : ℕ → ℕ) where

@@ -51,6 +51,7 @@ pub record Piece (B : ℕ) (e : Entry) : Type 0 where
   pub following : ℕ
   pub lives : e .«life_left» .0 ≡ e .left .0 + following * e .period .0
   pub once : e .kind ≡ 3 → following ≡ 0
+  pub life-once : e .kind ≡ 3 → e .life .0 ≡ e .period .0
   pub owed : e .owed .0 ≡ e .min .0 - e .given .0
   pub min-least : 1 ≤ e .min .0
   pub period-whole : e .kind ≡ 2 → e .period .0 ≤ 255
@@ -113,6 +114,7 @@ module _ {B : ℕ} {e : Entry} (h : Held B e) where
         following = r .following;
         lives = r .lives;
         once = λ z. only (r .following) (e .period .0) (e .left .0) (omega (arith, three z)) (r .ahead);
+        life-once = three;
         owed = r .owed;
         min-least = f .2;
         period-whole = λ z. two z .0;
@@ -137,6 +139,12 @@ module _ {B : ℕ} {e : Entry} (h : Held B e) where
           let n = not-fraction e (inr (f .kind)) in
           let g = rw n at f in
           inr (held-piece (inr (g .kind)) n (omega arith) (omega arith) (omega arith))
+
+pub piece-other : {B : ℕ} {e : Entry} → Piece B e → e .kind ≢ 1
+piece-other {e = e} p = eqb-false (e .kind) 1 (not-fraction e (p .kind))
+
+pub other-piece : {B : ℕ} {e : Entry} → Held B e → e .kind ≢ 1 → Piece B e
+other-piece h n = elim (held-kinds h) [ inl f ↦ absurd (n (f .kind)) | inr p ↦ p ]
 
 -- ---- the entry of a request
 -- it holds the request, whatever the request is

@@ -9,7 +9,7 @@ use native.Mathlib.Nat.{le-refl}
 use native.Mathlib.Decide.{decLe, ℕ-discrete}
 use native.Mathlib.Omega.{arith}
 use lib.Dec.{eqb}
-use borrow.Author.Tests.{eqb-false, eq-eqb, ne-eqb}
+use borrow.Author.Tests.{eq-eqb, ne-eqb}
 use Rattle.lists.specs.Tests.{and-false}
 use Rattle.model.specs.Requests.{streamInRange, fieldsAnswer}
 use Rattle.model.specs.Entries.{freeEntry, isKind, isPiece, requestOf}
@@ -18,7 +18,7 @@ use Rattle.model.specs.declared.Request.{Request}
 use Rattle.rules.specs.Share.{headroom}
 use Rattle.rules.specs.Ahead.{passed, renewed, settled}
 use Rattle.rules.specs.WellFormed.{Held, Running}
-use Rattle.laws.specs.Held.{Fraction, Piece, held-kinds, piece-of, not-fraction}
+use Rattle.laws.specs.Held.{Fraction, Piece, held-kinds, piece-of, piece-other, not-fraction}
 
 abbrev pub after : (b c : ℕ) → Entry → Entry
 after b c e = settled (passed b c e)
@@ -164,6 +164,9 @@ module _ (b c : ℕ) {B : ℕ} {e : Entry} (p : Piece B e) where
           on l el (after-stays b c e false life (rw (piece-left, ne-eqb (e .left .0 - 1) 0 (λ z. omega arith)) (and-false (isKind 2 e))))
 
 -- ---- a held entry stays held
+pub headroom-fraction : (e : Entry) (b : ℕ) → e .kind ≡ 1 → headroom e b ≡ e .max .0 - e .min .0
+headroom-fraction e b k = rw k
+
 pub headroom-whole : (e : Entry) (b : ℕ) → e .kind ≡ 2 → headroom e b ≡ e .max .0 - e .given .0 - b
 headroom-whole e b k = rw k
 
@@ -251,5 +254,4 @@ settled-held B b c e h g = elim (held-kinds h) [
         rw q (inr (refl, still-held h (renewed (passed b c e)) refl (omega arith) (omega arith) (λ z. absurd (omega arith)) (λ n. r)))
     piece-stays p (on l el q) =
         let r = passed-running b c p l el g in
-        let n = eqb-false (e .kind) 1 (not-fraction e (p .kind)) in
-        rw q (inr (refl, still-held h (passed b c e) refl (omega arith) (omega arith) (λ k. absurd (n k)) (λ k. r)))
+        rw q (inr (refl, still-held h (passed b c e) refl (omega arith) (omega arith) (λ k. absurd (piece-other p k)) (λ k. r)))
