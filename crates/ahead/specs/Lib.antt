@@ -1,4 +1,5 @@
 pub mod Moved
 pub mod Fits
 pub mod Exact
+pub mod Tables
 pub mod Formed

@@ -12,23 +12,19 @@ use Rattle.lists.specs.All.{All}
 use Rattle.model.specs.Checks.{Check, check, refusal}
 use Rattle.model.specs.Requests.{streamInRange, fieldChecks}
 use Rattle.model.specs.declared.Request.{Request}
-use Rattle.rules.specs.Slots.{Run}
+use Rattle.rules.specs.Slots.{Run, gives}
 use Rattle.rules.specs.Assignment.{Assignment, assigned}
 use Rattle.rules.specs.Calls.{places, recordWords, mostRecords, opened}
 use Rattle.guarantee.specs.History.{Call, Offer, Seen, Offered, Withdrew, Planned, history, planSeen, answerSeen, lastSeen}
 use Rattle.guarantee.specs.Ledger.{Admission, Ledger, begins, isOf, ledgerOf}
 
 -- ---- what a plan gives
--- a record gives its stream the slots from start to start + length - 1
-abbrev pub gives : Run → ℕ → Bool
-gives r x = leb (r .start) x && ltb x (r .start + r .length)
-
 -- how often a plan gives slot x; how often to stream s
 unfoldable pub timesGiven : ℕ → List Run → ℕ
 timesGiven x rs = sumOf (λ (r : Run). one-if (gives r x)) rs
 
 unfoldable pub givenTo : ℕ → ℕ → List Run → ℕ
-givenTo s x rs = sumOf (λ (r : Run). one-if (eqb (r .stream) s && gives r x)) rs
+givenTo s x rs = sumOf (λ (r : Run). one-if (gives r x && eqb (r .stream) s)) rs
 
 -- the slots from a up to b of a plan that are given to stream s
 unfoldable pub slotsOf : (s a b : ℕ) → List Run → ℕ

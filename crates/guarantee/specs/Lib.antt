@@ -5,3 +5,4 @@ pub mod Had
 pub mod Link
 pub mod Grown
 pub mod Serving
+pub mod Planned

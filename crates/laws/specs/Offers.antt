@@ -143,6 +143,21 @@ module _ (t : Table) (q : Request) where
       answer-checks
       ∙ none-refusal (refusal-none (offerChecksBut (holds t (q .stream)) isFull B q) (checks-numbered (holds t (q .stream)) isFull B q) h) (check 17 (not fits) ∷ [])
 
+  -- 0 where looking ahead says yes, and 17 where it says no
+  pub answer-fits : refusal (offerChecksBut (holds t (q .stream)) isFull B q) ≡ 0 → offerAnswer t q ≡ 0 → fits ≡ true
+  answer-fits h a = go fits (sym (offer-passed h) ∙ a)
+    where
+      go : (b : Bool) → _≡_ {A = ℕ} (cond (not b) 17 0) 0 → b ≡ true
+      go true z = refl
+      go false z = absurd (omega arith)
+
+  pub answer-not : refusal (offerChecksBut (holds t (q .stream)) isFull B q) ≡ 0 → offerAnswer t q ≡ 17 → fits ≡ false
+  answer-not h a = go fits (sym (offer-passed h) ∙ a)
+    where
+      go : (b : Bool) → _≡_ {A = ℕ} (cond (not b) 17 0) 17 → b ≡ false
+      go true z = absurd (omega arith)
+      go false z = refl
+
   -- an offer that answers 0 or 17 has passed every other check
   pub answer-passed : (offerAnswer t q ≡ 0) ⊎ (offerAnswer t q ≡ 17) → refusal (offerChecksBut (holds t (q .stream)) isFull B q) ≡ 0
   answer-passed h = go (ℕ-discrete (refusal cs) 0)

@@ -129,3 +129,7 @@ runsFrom s (c ∷ cs) = prepend s c (runsFrom (suc s) cs)
 
 unfoldable pub stepE : ℕ → List Entry → List Run
 stepE B es = runsFrom 0 (stepD B es)
+
+-- a record gives its stream the slots from start to start + length - 1
+abbrev pub gives : Run → ℕ → Bool
+gives r x = leb (r .start) x && ltb x (r .start + r .length)
