@@ -89,7 +89,7 @@ module _ (t : Table) (w : WellFormed t) (q : Request) (h : refusal (offerChecksB
         size = placed-length (entryOf q) (t .entries) ∙ w .size;
         entries = placed-all (entryOf q) (inr passed-held) (w .entries);
         once = together .once;
-        fits = fits-ahead B (keep isHeld (placed (entryOf q) (t .entries))) together 
+        fits = fits-ahead B (keep isHeld (placed (entryOf q) (t .entries))) together
             (picked-fits B passed-picked (ahead-fits B (entryOf q ∷ heldOf t) passed-together y));
       }
 

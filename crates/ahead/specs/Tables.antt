@@ -131,4 +131,3 @@ keep-free {P} f z (and {x = e} {xs = es} p r) h = go p (keep-free f z r h)
         → keep isHeld (map f (e ∷ es)) ≡ keep isHeld (map f (keep isHeld (e ∷ es)))
     go (inl q) ih = rw (q, z) ih
     go (inr q) ih = rw (h e q) (ap (cons-if (isHeld (f e)) (f e)) ih)
-

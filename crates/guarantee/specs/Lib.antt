@@ -6,3 +6,5 @@ pub mod Link
 pub mod Grown
 pub mod Serving
 pub mod Planned
+pub mod Keeps
+pub mod Proof

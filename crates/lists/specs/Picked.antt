@@ -1,12 +1,12 @@
 -- One element of a list and the others; and two lists matched one to one, up to their order. Assumes nothing.
-use mathlib.Core.Path.{_≡_, refl, sym, ap, subst, _∙_}
+use mathlib.Core.Path.{_≡_, refl, sym, ap, ap₂, subst, _∙_}
 use mathlib.Core.Logic.{_⊎_, inl, inr}
-use mathlib.Core.Bool.{Bool, true, false}
+use mathlib.Core.Bool.{Bool, true, false, _||_}
 use mathlib.Core.List.{List, [], _∷_, map}
 use Prim.Native.Nat.{ℕ, suc, _+_, _≤_}
 use native.Mathlib.Omega.{arith}
 use lib.ListN.{length}
-use Rattle.lists.specs.Lists.{cons-if, one-if, keep, sumOf}
+use Rattle.lists.specs.Lists.{cons-if, one-if, keep, sumOf, anyOf}
 use Rattle.lists.specs.Tests.{either, one-if-true}
 use Rattle.lists.specs.All.{All, stop, and, head, tail}
 use Rattle.lists.specs.Sums.{sum-zero, count-none}
@@ -45,6 +45,15 @@ module _ {A : Type 0} where
   pub picked-alone : (p : A → Bool) {x : A} {xs ys : List A} → Picked x xs ys → sumOf (λ y. one-if (p y)) xs ≤ 1 → p x ≡ true
       → All (λ y. p y ≡ false) ys
   picked-alone p {ys = ys} k w h = count-none p ys (omega (arith, picked-sum (λ y. one-if (p y)) k, one-if-true h))
+
+  pub picked-any : (p : A → Bool) {x : A} {xs ys : List A} → Picked x xs ys → anyOf p xs ≡ (p x || anyOf p ys)
+  picked-any p here = refl
+  picked-any p {x} (there {y = z} {ys = zs} k) = ap (λ b. p z || b) (picked-any p k) ∙ swap (p z) (p x) (anyOf p zs)
+    where
+      swap : (a b c : Bool) → (a || (b || c)) ≡ (b || (a || c))
+      swap true true c = refl
+      swap true false c = refl
+      swap false b c = refl
 
   -- each element with the others
   pub each-picked : (xs : List A) → All (λ x. (ys : List A) × Picked x xs ys) xs
@@ -93,6 +102,11 @@ module _ {A B : Type 0} where
       → ((x : A) (y : B) → R x y → Q y) → All Q ys
   paired-right done f = stop
   paired-right (pair {x = a} {y = b} r k p) f = picked-all k (f a b r) (paired-right p f)
+
+  pub paired-any : {R : A → B → Type 0} (p : A → Bool) (q : B → Bool) {xs : List A} {ys : List B}
+      → ((x : A) (y : B) → R x y → p x ≡ q y) → Paired R xs ys → anyOf p xs ≡ anyOf q ys
+  paired-any p q h done = refl
+  paired-any p q h (pair {x = a} {y = b} r k m) = ap₂ _||_ (h a b r) (paired-any p q h m) ∙ sym (picked-any q k)
 
   -- both sides changed and filtered alike
   pub paired-keep : {R S : A → B → Type 0} (u : A → Bool) (v : B → Bool) (f : A → A) (g : B → B) {xs : List A} {ys : List B}
