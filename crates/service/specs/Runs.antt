@@ -39,11 +39,11 @@ pub record IsRun (cs : List Slot) (r : Run) : Type 0 where
 
 -- ---- a record and a slot
 in-run : (r : Run) (x : ℕ) → r .start ≤ x → x < r .start + r .length → gives r x ≡ true
-in-run r x h k = both-and (leb (r .start) x) (ltb x (r .start + r .length)) (le-leb (r .start) x h) (lt-ltb x (r .start + r .length) k)
+in-run r x h k = both-and _ _ (le-leb (r .start) x h) (lt-ltb x _ (omega arith))
 
 off-run : (r : Run) (x : ℕ) → (x < r .start) ⊎ (r .start + r .length ≤ x) → gives r x ≡ false
-off-run r x (inl h) = ap (λ b. b && ltb x (r .start + r .length)) (lt-leb (r .start) x h)
-off-run r x (inr h) = ap (λ b. leb (r .start) x && b) (le-ltb x (r .start + r .length) h) ∙ and-false (leb (r .start) x)
+off-run r x (inl h) = rw (lt-leb (r .start) x h)
+off-run r x (inr h) = ap (λ b. leb (r .start) x && b) (le-ltb x _ (omega arith)) ∙ and-false (leb (r .start) x)
 
 first-slot : {cs : List Slot} {r : Run} → IsRun cs r → getD cs (r .start) none ≡ some (nameIn r)
 first-slot {r = r} v = v .all (r .start) (le-refl (r .start)) (omega (arith, v .one))
