@@ -1,2 +1,3 @@
 pub mod Jobs
 pub mod Gets
+pub mod Plan

@@ -1,16 +1,18 @@
 -- The job that a slot goes to: released, unfinished and, of all such, due first; and what the slot changes.
 -- Assumes nothing.
-use mathlib.Core.Path.{_≡_, refl, ap, ap₂, _∙_}
+use mathlib.Core.Path.{_≡_, refl, sym, ap, ap₂, _∙_}
+use mathlib.Core.Logic.{⊎-elim, _≢_}
 use mathlib.Core.Bool.{Bool, true, false, cond, _&&_}
 use mathlib.Core.List.{List, [], _∷_, map}
 use mathlib.Core.Option.{Option, none, some, Option·map}
-use Prim.Native.Nat.{ℕ, _-_, _≤_, zero-le}
+use Prim.Native.Nat.{ℕ, suc, _*_, _-_, _≤_, zero-le}
 use native.Mathlib.Nat.{le-refl}
+use native.Mathlib.Decide.{decLe}
 use native.Mathlib.Omega.{arith}
-use lib.Dec.{leb, eqb}
-use borrow.Author.Tests.{eqb-true, leb-true, leb-false}
+use lib.Dec.{leb, ltb}
+use borrow.Author.Tests.{leb-true, leb-false, ltb-true, le-leb, lt-leb}
 use Rattle.lists.specs.Lists.{one-if, sumOf}
-use Rattle.lists.specs.Tests.{clash, and-both, one-if-most, eqb-refl}
+use Rattle.lists.specs.Tests.{either, clash, and-both, one-if-true, one-if-false, one-if-most, eqb-refl}
 use Rattle.lists.specs.All.{All, stop, and, all-map}
 use Rattle.lists.specs.Sums.{sum-same, sum-map}
 use Rattle.lists.specs.Picked.{Picked, here, there, picked-all, picked-alone}
@@ -19,12 +21,6 @@ use Rattle.rules.specs.Slots.{Job, JobName, nameOf, isReady, dueFirst, choose, 
 -- ---- names
 pub same-self : (k : JobName) → sameName k k ≡ true
 same-self k = ap₂ _&&_ (eqb-refl (k .stream)) (eqb-refl (k .number))
-
-pub same-name : (a b : JobName) → sameName a b ≡ true → a ≡ b
-same-name a b h i =
-    let p : (eqb (a .stream) (b .stream) ≡ true) × (eqb (a .number) (b .number) ≡ true) =
-    and-both (eqb (a .stream) (b .stream)) (eqb (a .number) (b .number)) h in
-    record { stream = eqb-true (a .stream) (b .stream) (p .0) i; number = eqb-true (a .number) (b .number) (p .1) i }
 
 -- no job name stands twice
 abbrev pub Keys : List Job → Type 0
@@ -67,7 +63,13 @@ chooses s (j ∷ js) = go (isReady s j) refl (choose s js) (chooses s js)
     go false q none (idle a) = idle (and q a)
     go false q (some k) (takes pick r a) = takes (there pick) r (and (λ z. absurd (clash (isReady s j) z q)) a)
 
--- who the slot goes to is ready, and has the slot's name
+-- a ready job is released and not finished
+pub ready-both : (s : ℕ) (j : Job) → isReady s j ≡ true → (j .release ≤ s) × (1 ≤ j .need)
+ready-both s j h =
+    let p : (leb (j .release) s ≡ true) × (ltb 0 (j .need) ≡ true) = and-both (leb (j .release) s) (ltb 0 (j .need)) h in
+    (leb-true (j .release) s (p .0), ltb-true 0 (j .need) (p .1))
+
+-- who has the slot is ready
 pub ready-only : (s : ℕ) {js : List Job} → Keys js → All (λ j. hasSlot (slotOf (choose s js)) j ≡ true → isReady s j ≡ true) js
 ready-only s {js} w = go (choose s js) (chooses s js)
   where
@@ -128,7 +130,7 @@ keys-charge c js w k =
           (λ j. ap one-if (charge-slot (some k) c j)),
     )
 
--- jobs changed, and a time moved, so that each is ready as before: the choice is the same
+-- jobs changed, and a time moved, so that each is ready as before and due as before: the choice is the same
 pub choose-again : (f : Job → Job) (s t : ℕ) {js : List Job} → ((j : Job) → f j .due ≡ j .due)
     → All (λ j. isReady t (f j) ≡ isReady s j) js → choose t (map f js) ≡ Option·map f (choose s js)
 unfolding choose
@@ -144,3 +146,33 @@ choose-again f s t d (and {x = j} {xs = js} h r) =
     go true none = refl
     go true (some k) = ap₂ (λ x y. cond (leb x y) (some (f j)) (some (f k))) (d j) (d k) ∙ two k (leb (j .due) (k .due))
     go false c = refl
+
+-- ---- the same choice in the next slot
+-- two tests with one answer
+same-leb : (a b c d : ℕ) → (a ≤ b → c ≤ d) → (c ≤ d → a ≤ b) → leb a b ≡ leb c d
+same-leb a b c d f g =
+    elim (decLe a b) [
+      | yes q ↦ le-leb a b q ∙ sym (le-leb c d (f q))
+      | no q ↦ elim (decLe c d) [ yes z ↦ absurd (q (g z)) | no z ↦ lt-leb a b (omega arith) ∙ sym (lt-leb c d (omega arith)) ]
+    ]
+
+-- a job is ready as before if it is not released next and, where it has the slot, has another to come
+ready-on : (s : ℕ) (c : Slot) (j : Job) → (j .release ≢ suc s) × (hasSlot c j ≡ true → 2 ≤ j .need)
+    → isReady (suc s) (charge c j) ≡ isReady s j
+ready-on s c j h =
+    let n : j .release ≢ suc s = h .0 in
+    let m : 2 * got c j ≤ j .need =
+    ⊎-elim (λ z. omega (arith, h .1 z, one-if-true z)) (λ z. omega (arith, one-if-false z)) (either (hasSlot c j)) in
+    let r : charge c j .release ≡ j .release = charge-release c j in
+    let l : charge c j .need ≡ j .need - got c j = charge-need c j in
+    ap₂ _&&_ (same-leb (charge c j .release) (suc s) (j .release) s (λ q. omega arith) (λ q. omega arith))
+    (same-leb 1 (charge c j .need) 1 (j .need) (λ q. omega arith) (λ q. omega (arith, one-if-most (hasSlot c j))))
+
+-- so the next slot goes where the slot before it would have gone
+pub slot-again : (s : ℕ) (c : Slot) {js : List Job} → All (λ j. (j .release ≢ suc s) × (hasSlot c j ≡ true → 2 ≤ j .need)) js
+    → slotOf (choose (suc s) (map (charge c) js)) ≡ slotOf (choose s js)
+slot-again s c {js} h = ap slotOf (choose-again (charge c) s (suc s) (charge-due c) (all-map (ready-on s c) h)) ∙ named (choose s js)
+  where
+    named : (o : Option Job) → slotOf (Option·map (charge c) o) ≡ slotOf o
+    named none = refl
+    named (some k) = ap some (charge-name c k)

@@ -21,8 +21,12 @@ abbrev pub nameIn : Run → JobName
 nameIn r = record { stream = r .stream; number = r .job }
 
 -- ---- a record that slot s goes on into: it is job k's, and starts in the next slot
-pub goes-self : (k : JobName) (s n : ℕ) → goesOn k s (run k (suc s) n) ≡ true
+goes-self : (k : JobName) (s n : ℕ) → goesOn k s (run k (suc s) n) ≡ true
 goes-self k s n = ap₂ _&&_ (eqb-refl (k .stream)) (ap₂ _&&_ (eqb-refl (k .number)) (eqb-refl (suc s)))
+
+pub prepend-on : (s : ℕ) (k : JobName) (n : ℕ) (rs : List Run) → prepend s (some k) (run k (suc s) n ∷ rs) ≡ run k s (suc n) ∷ rs
+unfolding prepend
+prepend-on s k n rs = ap (λ b. cond b (run k s (suc n) ∷ rs) (run k s 1 ∷ run k (suc s) n ∷ rs)) (goes-self k s n)
 
 goes-on : (k : JobName) (s : ℕ) (r : Run) → goesOn k s r ≡ true → r ≡ run k (suc s) (r .length)
 goes-on k s r h =

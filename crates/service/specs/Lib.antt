@@ -3,3 +3,5 @@ pub mod Service
 pub mod Meets
 pub mod Cuts
 pub mod Runs
+pub mod Count
+pub mod Events

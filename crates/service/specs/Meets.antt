@@ -7,6 +7,7 @@ use mathlib.Core.Bool.{Bool, true, false, cond}
 use mathlib.Core.List.{List, _∷_, map}
 use mathlib.Core.Option.{Option, none, some, Option·none-ne-some, Option·some-injective}
 use Prim.Native.Nat.{ℕ, zero, suc, _+_, _-_, _≤_, _<_, zero-le}
+use native.Mathlib.Nat.{zero-add}
 use native.Mathlib.Decide.{decLe}
 use native.Mathlib.Omega.{arith}
 use lib.ListN.{length, getD}
@@ -15,21 +16,25 @@ use Rattle.lists.specs.Tests.{either, cond-zero, one-if-true, one-if-false}
 use Rattle.lists.specs.All.{All, all-of, all-map, all-zip, all-of-map, all-unmap}
 use Rattle.lists.specs.Sums.{sum-same, sum-zero, sum-map, each-in-sum}
 use Rattle.lists.specs.Picked.{picked-one, picked-only}
-use Rattle.theory.specs.Time.{due-in, span-agree, span-ext, span-join, span-zero}
+use Rattle.theory.specs.Time.{due-in, span-agree, span-ext, span-join, span-zero, span-sum}
 use Rattle.theory.specs.Edf.{dem}
 use Rattle.rules.specs.Slots.{Job, JobName, nameOf, isReady, choose, Slot, slotOf, hasSlot, charge, slotsFrom}
-use Rattle.service.specs.Choice.{Keys, Choice, idle, takes, chooses, same-self, named-apart, ready-only, got, wins}
+use Rattle.service.specs.Choice.{Keys, Choice, idle, takes, chooses, same-self, named-apart, ready-both, ready-only, got, wins}
 use Rattle.service.specs.Choice.{charge-name, charge-release, charge-due, charge-need, charge-slot, keys-charge}
-use Rattle.service.specs.Service.{jobSource, JobRoom, ready-both, job-on, room-on}
+use Rattle.service.specs.Service.{jobSource, JobRoom, job-on, room-on}
 
 -- 1 where slot x of cs is j's
 abbrev pub has : List Slot → Job → ℕ → ℕ
 has cs j x = got (getD cs x none) j
 
+-- slot t lies before the job's release, or at its deadline or after
+abbrev pub Outside : ℕ → Job → Type 0
+Outside t j = (t < j .release) ⊎ (j .due ≤ t)
+
 -- of the n slots cs from slot s on: as many as j needs are its, all from its release on and before its deadline
 pub record Met (s n : ℕ) (cs : List Slot) (j : Job) : Type 0 where
   pub exact : span (has cs j) 0 n ≡ j .need
-  pub outside : (x : ℕ) → (s + x < j .release) ⊎ (j .due ≤ s + x) → hasSlot (getD cs x none) j ≡ false
+  pub outside : (x : ℕ) → Outside (s + x) j → hasSlot (getD cs x none) j ≡ false
 
 -- where there is room, nothing is owed after its deadline
 overdue : (s : ℕ) (js : List Job) → JobRoom s js → All (λ j. j .release ≤ s → j .due ≤ s → j .need ≡ 0) js
@@ -48,7 +53,8 @@ slot-inside s js w r = all-zip one (ready-only s w) (overdue s js r)
         let b : (j .release ≤ s) × (1 ≤ j .need) = ready-both s j (h z) in
         (b .0, elim (decLe (j .due) s) [ yes q ↦ absurd (omega (arith, o (b .0) q)) | no q ↦ omega arith ], b .1)
 
--- slots that meet a job as slot c leaves it, with c before them, where c is not the job's or lies between its release and its deadline
+-- Slots that meet a job as slot c leaves it, with c before them, where c is not the job's or lies between its release and its deadline.
+-- The others give it what c leaves of its need; and what lies outside for the job lies outside for it after c.
 met-cons : (s n : ℕ) (c : Slot) (cs : List Slot) (j : Job) → (hasSlot c j ≡ true → (j .release ≤ s) × (s < j .due) × (1 ≤ j .need))
     → Met (suc s) n cs (charge c j) → Met s (suc n) (c ∷ cs) j
 met-cons s n c cs j h m =
@@ -63,7 +69,7 @@ met-cons s n c cs j h m =
       outside = out;
     }
   where
-    out : (x : ℕ) → (s + x < j .release) ⊎ (j .due ≤ s + x) → hasSlot (getD (c ∷ cs) x none) j ≡ false
+    out : (x : ℕ) → Outside (s + x) j → hasSlot (getD (c ∷ cs) x none) j ≡ false
     out zero z =
         ⊎-elim (λ q. absurd (⊎-elim (λ e. omega (arith, h q)) (λ e. omega (arith, h q)) z)) (λ q. q) (either (hasSlot c j))
     out (suc x) z =
@@ -88,13 +94,11 @@ slots-meet (suc n) s js w r h =
 -- ---- windows of slots 0, 1, ..
 module _ {n : ℕ} {cs : List Slot} {j : Job} (m : Met 0 n cs j) where
   -- a window in which no slot is the job's
-  quiet : (a b : ℕ) → ((x : ℕ) → a ≤ x → x < b → (x < j .release) ⊎ (j .due ≤ x)) → span (has cs j) a b ≡ 0
+  quiet : (a b : ℕ) → ((x : ℕ) → a ≤ x → x < b → Outside x j) → span (has cs j) a b ≡ 0
   quiet a b h =
-      span-agree (has cs j) (λ x. 0) a b (λ x p q. one-if-false (m .outside x (at x (h x p q)))) ∙ span-zero (λ x. 0) a b (λ x p. refl)
-    where
-      at : (x : ℕ) → (x < j .release) ⊎ (j .due ≤ x) → (0 + x < j .release) ⊎ (j .due ≤ 0 + x)
-      at x (inl z) = inl (omega arith)
-      at x (inr z) = inr (omega arith)
+      span-agree (has cs j) (λ x. 0) a b
+      (λ x p q. one-if-false (m .outside x (subst (λ t. Outside t j) (sym (zero-add x)) (h x p q))))
+      ∙ span-zero (λ x. 0) a b (λ x p. refl)
 
   -- a window that holds the job's release and its deadline has all that it needs
   pub met-inside : (a b : ℕ) → a ≤ j .release → j .due ≤ b → a ≤ b → b ≤ n → span (has cs j) a b ≡ j .need
@@ -160,3 +164,18 @@ slot-shares (suc n) s js w p (suc x) =
     ∙ sum-map (λ j. cond (p (nameOf j)) (got d j) 0) (charge c) js
     ∙ sum-same (λ j. cond (p (nameOf (charge c j))) (got d (charge c j)) 0) (λ j. cond (p (nameOf j)) (got d j) 0) js
     (λ j. ap₂ (λ k b. cond (p k) (one-if b) 0) (charge-name c j) (charge-slot d c j))
+
+-- a condition on the whole window
+span-cond : (q : Bool) (f : ℕ → ℕ) (a b : ℕ) → span (λ x. cond q (f x) 0) a b ≡ cond q (span f a b) 0
+span-cond true f a b = refl
+span-cond false f a b = span-zero (λ x. 0) a b (λ x p. refl)
+
+-- so in a window: the slots of passing jobs are what each of these has there
+pub window-shares : (n s : ℕ) (js : List Job) → Keys js → (p : JobName → Bool) (a b : ℕ)
+    → span (λ x. wins p (getD (slotsFrom n s js) x none)) a b ≡ sumOf (λ j. cond (p (nameOf j)) (span (has (slotsFrom n s js) j) a b) 0) js
+window-shares n s js w p a b =
+    let cs : List Slot = slotsFrom n s js in
+    span-ext (λ x. wins p (getD cs x none)) (λ x. share js p (getD cs x none)) a b (slot-shares n s js w p)
+    ∙ sym (span-sum (λ j x. cond (p (nameOf j)) (has cs j x) 0) js a b)
+    ∙ sum-same (λ j. span (λ x. cond (p (nameOf j)) (has cs j x) 0) a b) (λ j. cond (p (nameOf j)) (span (has cs j) a b) 0) js
+    (λ j. span-cond (p (nameOf j)) (has cs j) a b)

@@ -17,14 +17,10 @@ use Rattle.lists.specs.Lists.{one-if, sumOf}
 use Rattle.lists.specs.Tests.{both-and, and-false}
 use Rattle.lists.specs.All.{All, stop, and, head, all-map}
 use Rattle.lists.specs.Sums.{sum-zero}
-use Rattle.rules.specs.Slots.{JobName, Slot, Run, runsFrom}
+use Rattle.rules.specs.Slots.{JobName, Slot, Run, runsFrom, gives}
 use Rattle.rules.specs.Window.{rises}
 use Rattle.service.specs.Choice.{wins, wins-most}
 use Rattle.service.specs.Cuts.{nameIn, no-job, slot, Cuts, over, skip, cut, same-slot, cuts-from, cuts-all}
-
--- slot x is one of the record's
-abbrev pub gives : Run → ℕ → Bool
-gives r x = leb (r .start) x && ltb x (r .start + r .length)
 
 -- how many records give slot x to a job that passes
 abbrev pub covers : (JobName → Bool) → ℕ → List Run → ℕ
@@ -39,11 +35,11 @@ pub record IsRun (cs : List Slot) (r : Run) : Type 0 where
 
 -- ---- a record and a slot
 in-run : (r : Run) (x : ℕ) → r .start ≤ x → x < r .start + r .length → gives r x ≡ true
-in-run r x h k = both-and (leb (r .start) x) (ltb x (r .start + r .length)) (le-leb (r .start) x h) (lt-ltb x (r .start + r .length) k)
+in-run r x h k = both-and _ _ (le-leb (r .start) x h) (lt-ltb x _ (omega arith))
 
 off-run : (r : Run) (x : ℕ) → (x < r .start) ⊎ (r .start + r .length ≤ x) → gives r x ≡ false
-off-run r x (inl h) = ap (λ b. b && ltb x (r .start + r .length)) (lt-leb (r .start) x h)
-off-run r x (inr h) = ap (λ b. leb (r .start) x && b) (le-ltb x (r .start + r .length) h) ∙ and-false (leb (r .start) x)
+off-run r x (inl h) = rw (lt-leb (r .start) x h)
+off-run r x (inr h) = ap (λ b. leb (r .start) x && b) (le-ltb x _ (omega arith)) ∙ and-false (leb (r .start) x)
 
 first-slot : {cs : List Slot} {r : Run} → IsRun cs r → getD cs (r .start) none ≡ some (nameIn r)
 first-slot {r = r} v = v .all (r .start) (le-refl (r .start)) (omega (arith, v .one))

@@ -11,8 +11,8 @@ use native.Mathlib.Nat.{le-refl, le-of-eq, sub-zero}
 use native.Mathlib.Decide.{decLe}
 use native.Mathlib.Omega.{arith}
 use lib.Dec.{leb, ltb}
-use borrow.Author.Tests.{leb-true, ltb-true, le-leb, lt-ltb}
-use Rattle.lists.specs.Tests.{either, clash, and-both, both-and, one-if-true, one-if-false}
+use borrow.Author.Tests.{le-leb, lt-ltb}
+use Rattle.lists.specs.Tests.{either, clash, both-and, one-if-true, one-if-false}
 use Rattle.lists.specs.All.{all-map, all-zip}
 use Rattle.lists.specs.Sums.{sum-le, sum-map}
 use Rattle.lists.specs.Picked.{picked-rest}
@@ -21,7 +21,7 @@ use Rattle.theory.specs.Edf.{Source, source, rem, left, next, dem, Greedy, Room
 use Rattle.theory.specs.Greedy.{idle-greedy, slot-greedy}
 use Rattle.theory.specs.Periodic.{waiting-dem}
 use Rattle.rules.specs.Slots.{Job, nameOf, isReady, choose, Slot, slotOf, hasSlot, charge}
-use Rattle.service.specs.Choice.{Keys, Choice, idle, takes, chooses, same-self, named-apart, ready-only, got}
+use Rattle.service.specs.Choice.{Keys, Choice, idle, takes, chooses, same-self, named-apart, ready-both, ready-only, got}
 use Rattle.service.specs.Choice.{charge-need, charge-release, charge-due}
 
 -- a job that is released in w, due in l and asks n, as a source: it runs, or it is the one job that follows
@@ -50,11 +50,6 @@ pub job-dem : (j : Job) (x d : ℕ) → j .release ≤ j .due → dem (jobSource
 job-dem j x d h = rw (sub-zero (j .release), sub-zero (j .due)) (asking-dem (j .release) (j .due) (j .need) x d h)
 
 -- ---- a ready job is one that is owed something
-pub ready-both : (s : ℕ) (j : Job) → isReady s j ≡ true → (j .release ≤ s) × (1 ≤ j .need)
-ready-both s j h =
-    let p : (leb (j .release) s ≡ true) × (ltb 0 (j .need) ≡ true) = and-both (leb (j .release) s) (ltb 0 (j .need)) h in
-    (leb-true (j .release) s (p .0), ltb-true 0 (j .need) (p .1))
-
 -- a released job is owed its need, by its deadline
 pub job-on : (s : ℕ) (j : Job) → j .release ≤ s → jobSource s j ≡ source (j .need) (j .due - s) 0 1 0
 job-on s j h = let e : j .release - s ≡ 0 = omega arith in rw e
@@ -114,6 +109,7 @@ asks-on (suc (suc w)) l n g x d h k =
     let e : 0 ≡ 0 - g = omega arith in
     le-of-eq (ap₂ (λ u v. dem (asking u (l - 1) v) x d) a c ∙ ap₂ (λ u v. dem (source v (suc w) n u 1) x d) b e)
 
+-- There is room for what is left: so the theory has it for the sources, and of each job it asks, a slot later, no more than its source.
 pub room-on : (s : ℕ) (js : List Job) → Keys js → JobRoom s js → JobRoom (suc s) (map (charge (slotOf (choose s js))) js)
 room-on s js w r x d =
     omega (
