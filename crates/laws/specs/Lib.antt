@@ -8,3 +8,4 @@ pub mod Turns
 pub mod Extras
 pub mod Refusals
 pub mod Offers
+pub mod Places
