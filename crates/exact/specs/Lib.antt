@@ -1,3 +1,4 @@
+pub mod Assignment
 pub mod Needed
 pub mod Plans
 pub mod Offer

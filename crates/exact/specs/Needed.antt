@@ -18,12 +18,12 @@ use Rattle.theory.specs.Edf.{source}
 use Rattle.theory.specs.Necessity.{Fed, fed-room, fed-gone}
 use Rattle.model.specs.Entries.{isStream, isPiece}
 use Rattle.model.specs.declared.Entry.{Entry}
-use Rattle.rules.specs.Assignment.{Assignment, isTo, assigned, ServesEntry}
 use Rattle.rules.specs.WellFormed.{Held, Once}
 use Rattle.laws.specs.Held.{Fraction, Piece, held-kinds, piece-of, piece-other, other-piece, not-fraction, fraction-not}
 use Rattle.laws.specs.Sources.{sourceOf, loadAt, fraction-source, piece-source, load-none, load-fraction}
 use Rattle.ahead.specs.Moved.{Together}
 use Rattle.ahead.specs.Fits.{Fits, loadsAt}
+use Rattle.exact.specs.Assignment.{Assignment, isTo, assigned, ServesEntry}
 
 -- the slots of coming interval t that go to an entry
 abbrev pub slotsTo : ℕ → Assignment → Entry → ℕ → ℕ

@@ -9,12 +9,12 @@ use Rattle.model.specs.Checks.{refusal}
 use Rattle.model.specs.Entries.{entryOf}
 use Rattle.model.specs.declared.Request.{Request}
 use Rattle.model.specs.declared.Table.{Table}
-use Rattle.rules.specs.Assignment.{Assignment, ServesEntry}
 use Rattle.rules.specs.Calls.{heldOf, holds, offerAnswer}
 use Rattle.rules.specs.WellFormed.{WellFormed}
 use Rattle.laws.specs.Offers.{offerChecksBut, isFull, fits, answer-fits, answer-not}
 use Rattle.ahead.specs.Tables.{formed-some}
 use Rattle.ahead.specs.Formed.{passed-together}
+use Rattle.exact.specs.Assignment.{Assignment, ServesEntry}
 use Rattle.exact.specs.Plans.{plansAhead, ahead-serves, serves-ahead}
 
 module _ (t : Table) (w : WellFormed t) (q : Request) (h : refusal (offerChecksBut (holds t (q .stream)) (isFull t q) (t .interval .0) q) ≡ 0) where

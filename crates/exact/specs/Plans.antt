@@ -20,7 +20,6 @@ use Rattle.model.specs.declared.Entry.{Entry}
 use Rattle.rules.specs.Share.{load, slotsFor, jobCount, stepB, stepC}
 use Rattle.rules.specs.Slots.{Slot, jobLength, jobNeed, stepD}
 use Rattle.rules.specs.Ahead.{stepF, fitsAhead}
-use Rattle.rules.specs.Assignment.{Assignment, isTo, assigned, ServesEntry}
 use Rattle.rules.specs.WellFormed.{Held}
 use Rattle.laws.specs.Held.{Fraction, Piece, held-kinds, held-is, piece-of, piece-other, not-fraction}
 use Rattle.laws.specs.Settled.{after, Granted, aged, FractionFate, ended, ages, fraction-fate, Stays, settled-held}
@@ -32,6 +31,7 @@ use Rattle.ahead.specs.Fits.{Fits, pieceOf, loads-now, fits-meets, fits-on}
 use Rattle.ahead.specs.Exact.{lives-most, ahead-fits, fits-ahead}
 use Rattle.service.specs.Choice.{wins}
 use Rattle.interval.specs.Gets.{ofStream, streamAt, stream-gets}
+use Rattle.exact.specs.Assignment.{Assignment, isTo, assigned, ServesEntry}
 use Rattle.exact.specs.Needed.{slotsTo, Fair, entry-fair, fair-entry, fair-fits}
 
 -- the entries k intervals on, as beacons leave them

@@ -13,7 +13,7 @@ use Rattle.model.specs.Checks.{Check, check, refusal}
 use Rattle.model.specs.Requests.{streamInRange, fieldChecks}
 use Rattle.model.specs.declared.Request.{Request}
 use Rattle.rules.specs.Slots.{Run, gives}
-use Rattle.rules.specs.Assignment.{Assignment, assigned}
+use Rattle.exact.specs.Assignment.{Assignment, assigned}
 use Rattle.rules.specs.Calls.{places, recordWords, mostRecords, opened}
 use Rattle.guarantee.specs.History.{Call, Offer, Seen, Offered, Withdrew, Planned, history, planSeen, answerSeen, lastSeen}
 use Rattle.guarantee.specs.Ledger.{Admission, Ledger, begins, isOf, ledgerOf}

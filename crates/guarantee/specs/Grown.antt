@@ -13,7 +13,8 @@ use lib.Dec.{eqb}
 use lib.ListN.{length}
 use borrow.Author.Tests.{lt-ltb, le-ltb}
 use Rattle.lists.specs.Tests.{clash}
-use Rattle.model.specs.Entries.{freeEntry, isHeld, requestOf}
+use Rattle.model.specs.Entries.{freeEntry, isHeld}
+use Rattle.model.specs.Answers.{requestOf}
 use Rattle.model.specs.declared.Entry.{Entry}
 use Rattle.rules.specs.Slots.{Run}
 use Rattle.rules.specs.Share.{headroom}

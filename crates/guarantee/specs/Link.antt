@@ -8,8 +8,9 @@ use native.Mathlib.Nat.{lt-of-mul-lt-mul-right}
 use native.Mathlib.Omega.{arith}
 use lib.ListN.{length}
 use borrow.Author.Tests.{eqb-false, eq-eqb, ne-eqb}
-use Rattle.model.specs.Requests.{fieldsAnswer}
-use Rattle.model.specs.Entries.{entryOf, requestOf}
+use Rattle.model.specs.Answers.{fieldsAnswer}
+use Rattle.model.specs.Entries.{entryOf}
+use Rattle.model.specs.Answers.{requestOf}
 use Rattle.model.specs.declared.Entry.{Entry}
 use Rattle.model.specs.declared.Request.{Request}
 use Rattle.rules.specs.WellFormed.{Held}

@@ -17,7 +17,7 @@ use Rattle.model.specs.Entries.{freeEntry, entryOf, isStream}
 use Rattle.model.specs.declared.Entry.{Entry}
 use Rattle.model.specs.declared.Request.{Request}
 use Rattle.model.specs.declared.Table.{Table}
-use Rattle.rules.specs.Assignment.{Assignment, ServesEntry}
+use Rattle.exact.specs.Assignment.{Assignment, ServesEntry}
 use Rattle.rules.specs.Calls.{places, recordWords, mostRecords, opened, heldOf, holds, offerAnswer, placed, offered, heldAnswer, withdrawn}
 use Rattle.rules.specs.Calls.{planOf, advanced, refusedBeacon, plannedBeacon, beacon}
 use Rattle.laws.specs.Offers.{offerChecksBut, checks-passed, isFull, fits, offer-refused, offer-passed, answer-passed}

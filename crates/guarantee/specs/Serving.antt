@@ -11,7 +11,7 @@ use lib.ListN.{length}
 use Rattle.lists.specs.Lists.{span}
 use Rattle.model.specs.declared.Entry.{Entry}
 use Rattle.rules.specs.WellFormed.{Held}
-use Rattle.rules.specs.Assignment.{Assignment, assigned, ServesEntry}
+use Rattle.exact.specs.Assignment.{Assignment, assigned, ServesEntry}
 use Rattle.laws.specs.Held.{Piece, other-piece}
 use Rattle.guarantee.specs.Ledger.{Admission}
 use Rattle.guarantee.specs.Demand.{had, Serves}

@@ -20,7 +20,7 @@ use Rattle.model.specs.declared.Table.{Table}
 use Rattle.rules.specs.Share.{jobCount, stepB, stepC}
 use Rattle.rules.specs.Slots.{Job, JobName, Run, nameOf, jobAt, jobsFrom, jobLength, jobNeed, jobsOf, jobs, stepD, stepE}
 use Rattle.rules.specs.Calls.{places, mostRecords, heldOf, planOf}
-use Rattle.rules.specs.Window.{rises}
+use Rattle.rules.specs.Reading.{rises}
 use Rattle.rules.specs.WellFormed.{Held, WellFormed}
 use Rattle.laws.specs.Held.{Fraction, Piece, held-kinds, not-fraction}
 use Rattle.ahead.specs.Moved.{Together}

@@ -11,7 +11,8 @@ use borrow.Author.Tests.{leb-true, le-leb, eqb-true, eq-eqb}
 use Rattle.lists.specs.Lists.{within}
 use Rattle.lists.specs.Tests.{and-both, both-and, within-both, both-within}
 use Rattle.model.specs.Checks.{refusal}
-use Rattle.model.specs.Requests.{inOrder, rangeChecks, fieldsAnswer}
+use Rattle.model.specs.Requests.{inOrder, rangeChecks}
+use Rattle.model.specs.Answers.{fieldsAnswer}
 use Rattle.model.specs.Requests.{fractionPeriod, fractionAmounts, fractionLife, wholePeriod, wholeAmounts, wholeLife}
 use Rattle.model.specs.Requests.{transferPeriod, transferAmounts, transferLife}
 use Rattle.model.specs.RequestLaws.{fields-fraction, fields-whole, fields-transfer, fields-unknown}

@@ -9,8 +9,10 @@ use native.Mathlib.Omega.{arith}
 use lib.Dec.{eqb}
 use borrow.Author.Tests.{eqb-false, eq-eqb, ne-eqb}
 use Rattle.lists.specs.Tests.{within-both}
-use Rattle.model.specs.Requests.{streamInRange, fieldsAnswer}
-use Rattle.model.specs.Entries.{isHeld, isKind, isPiece, entryOf, requestOf}
+use Rattle.model.specs.Requests.{streamInRange}
+use Rattle.model.specs.Answers.{fieldsAnswer}
+use Rattle.model.specs.Entries.{isHeld, isKind, isPiece, entryOf}
+use Rattle.model.specs.Answers.{requestOf}
 use Rattle.model.specs.declared.Entry.{Entry}
 use Rattle.model.specs.declared.Request.{Request}
 use Rattle.rules.specs.WellFormed.{Held, Running}

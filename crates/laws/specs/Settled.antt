@@ -11,8 +11,10 @@ use native.Mathlib.Omega.{arith}
 use lib.Dec.{eqb}
 use borrow.Author.Tests.{eq-eqb, ne-eqb}
 use Rattle.lists.specs.Tests.{and-false}
-use Rattle.model.specs.Requests.{streamInRange, fieldsAnswer}
-use Rattle.model.specs.Entries.{freeEntry, isKind, isPiece, requestOf}
+use Rattle.model.specs.Requests.{streamInRange}
+use Rattle.model.specs.Answers.{fieldsAnswer}
+use Rattle.model.specs.Entries.{freeEntry, isKind, isPiece}
+use Rattle.model.specs.Answers.{requestOf}
 use Rattle.model.specs.declared.Entry.{Entry}
 use Rattle.model.specs.declared.Request.{Request}
 use Rattle.rules.specs.Share.{headroom}

@@ -12,7 +12,8 @@ use borrow.Author.Tests.{eq-eqb}
 use Rattle.theory.specs.Time.{due, due-in, due-out}
 use Rattle.theory.specs.Edf.{Source, source, rem, left, gone, next}
 use Rattle.theory.specs.Converse.{Sound}
-use Rattle.model.specs.Entries.{freeEntry, isKind, isPiece, requestOf}
+use Rattle.model.specs.Entries.{freeEntry, isKind, isPiece}
+use Rattle.model.specs.Answers.{requestOf}
 use Rattle.model.specs.declared.Entry.{Entry}
 use Rattle.model.specs.declared.Request.{Request}
 use Rattle.rules.specs.Ahead.{passed, renewed}

@@ -1,4 +1,4 @@
--- An entry of the table: free, as accepted, and the request that it holds. Document 01, "Units and one request". Assumes nothing.
+-- An entry of the table: free, and as accepted. Document 01, "Units and one request". Assumes nothing.
 use Prim.Native.Nat.{ℕ}
 use mathlib.Core.Bool.{Bool, cond, not, _||_}
 use lib.Dec.{eqb}
@@ -51,16 +51,4 @@ entryOf q =
       owed = record { 0 = cond fraction 0 (q .min) };
       given = record { 0 = 0 };
       left = record { 0 = cond fraction 0 (q .period) };
-    }
-
--- the fields that were offered
-unfoldable pub requestOf : Entry → Request
-requestOf e =
-    record {
-      stream = e .stream;
-      kind = e .kind;
-      period = cond (isKind 1 e) (e .parts) (e .period .0);
-      min = e .min .0;
-      max = e .max .0;
-      life = e .life .0;
     }

@@ -1,4 +1,5 @@
 pub mod Checks
 pub mod Requests
-pub mod RequestLaws
 pub mod Entries
+pub mod Answers
+pub mod RequestLaws

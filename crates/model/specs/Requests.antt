@@ -5,7 +5,7 @@ use mathlib.Core.Bool.{Bool, true, cond, not, _&&_}
 use mathlib.Core.List.{List, [], _∷_}
 use lib.Dec.{leb, eqb}
 use Rattle.lists.specs.Lists.{within}
-use Rattle.model.specs.Checks.{Check, check, refusal}
+use Rattle.model.specs.Checks.{Check, check}
 use Rattle.model.specs.declared.Request.{Request}
 
 abbrev pub streamInRange : ℕ → Bool
@@ -66,6 +66,3 @@ fieldChecks B q =
     (cond (eqb (q .kind) 2) (wholeChecks B (q .period) (q .min) (q .max) (q .life))
     (cond (eqb (q .kind) 3) (transferChecks (q .period) (q .min) (q .max) (q .life))
     (check 12 true ∷ [])))
-
-unfoldable pub fieldsAnswer : ℕ → Request → ℕ
-fieldsAnswer B q = refusal (fieldChecks B q)

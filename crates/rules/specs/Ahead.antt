@@ -9,40 +9,32 @@ use Rattle.model.specs.declared.Entry.{Entry}
 use Rattle.rules.specs.Share.{Grant, slotsFor, overfull, stepB}
 
 -- ---- F. one entry, with its step B slots b and its step C slots c
+-- the entry with another life left, owed, given and intervals left
+abbrev pub standing : Entry → (lives owed given left : ℕ) → Entry
+standing e lives owed given left =
+    record {
+      stream = e .stream;
+      kind = e .kind;
+      parts = e .parts;
+      period = e .period;
+      min = e .min;
+      max = e .max;
+      life = e .life;
+      «life_left» = record { 0 = lives };
+      owed = record { 0 = owed };
+      given = record { 0 = given };
+      left = record { 0 = left };
+    }
+
 -- owed falls by b, given grows by b and c, life and intervals left fall by one; kind 1 has a life alone
 unfoldable pub passed : (b c : ℕ) → Entry → Entry
 passed b c e =
-    let fraction = isKind 1 e in
-    record {
-      stream = e .stream;
-      kind = e .kind;
-      parts = e .parts;
-      period = e .period;
-      min = e .min;
-      max = e .max;
-      life = e .life;
-      «life_left» = record { 0 = e .«life_left» .0 - 1 };
-      owed = record { 0 = cond fraction 0 (e .owed .0 - b) };
-      given = record { 0 = cond fraction 0 (e .given .0 + b + c) };
-      left = record { 0 = cond fraction 0 (e .left .0 - 1) };
-    }
+    let for-pieces : ℕ → ℕ = cond (isKind 1 e) 0 in
+    standing e (e .«life_left» .0 - 1) (for-pieces (e .owed .0 - b)) (for-pieces (e .given .0 + b + c)) (for-pieces (e .left .0 - 1))
 
 -- the next period begins: owed = min, given = 0, intervals left = period
 unfoldable pub renewed : Entry → Entry
-renewed e =
-    record {
-      stream = e .stream;
-      kind = e .kind;
-      parts = e .parts;
-      period = e .period;
-      min = e .min;
-      max = e .max;
-      life = e .life;
-      «life_left» = e .«life_left»;
-      owed = e .min;
-      given = record { 0 = 0 };
-      left = e .period;
-    }
+renewed e = standing e (e .«life_left» .0) (e .min .0) 0 (e .period .0)
 
 -- an entry with life 0 leaves; a kind 2 entry with 0 intervals left begins its next period
 unfoldable pub settled : Entry → Entry

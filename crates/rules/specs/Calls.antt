@@ -70,14 +70,6 @@ withdrawn t s =
     let freed = map (λ (e : Entry). cond (isStream s e) freeEntry e) (t .entries) in
     cond (holds t s) (record { interval = t .interval; entries = freed }) t
 
--- the whole entry, or zeros
-unfoldable pub entryFor : ℕ → List Entry → Entry
-entryFor s [] = freeEntry
-entryFor s (e ∷ es) = let r = entryFor s es in cond (isStream s e) e r
-
-abbrev pub enquired : Table → ℕ → Entry
-enquired t s = entryFor s (heldOf t)
-
 -- ---- beacon
 unfoldable pub wordsOf : List Run → List ℕ
 wordsOf [] = []

@@ -16,7 +16,7 @@ use Rattle.rules.specs.Slots.{jobsFrom, tieOrder, jobs, choose, slotsFro
 use Rattle.rules.specs.Ahead.{passed, renewed, settled, stepF, goesWell, fitsAhead}
 use Rattle.rules.specs.Calls.{openAnswer, opened, heldOf, offerAnswer, placed, offered, heldAnswer, withdrawn}
 use Rattle.rules.specs.Calls.{wordsOf, planOf, advanced, Beacon, beacon}
-use Rattle.rules.specs.Window.{startsOf, rises, before, windowAnswer, windowPart}
+use Rattle.rules.specs.Reading.{startsOf, rises, before, windowAnswer, windowPart}
 
 -- a call, or a look at the figures of the next step C: L, W, then each request's stream and extra
 pub data Ask : Type 0 where

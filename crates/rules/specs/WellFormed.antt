@@ -8,8 +8,10 @@ use mathlib.Core.List.{List}
 use lib.ListN.{length}
 use Rattle.lists.specs.Lists.{within, one-if, sumOf}
 use Rattle.lists.specs.All.{All}
-use Rattle.model.specs.Requests.{streamInRange, fieldsAnswer}
-use Rattle.model.specs.Entries.{freeEntry, isStream, requestOf}
+use Rattle.model.specs.Requests.{streamInRange}
+use Rattle.model.specs.Answers.{fieldsAnswer}
+use Rattle.model.specs.Entries.{freeEntry, isStream}
+use Rattle.model.specs.Answers.{requestOf}
 use Rattle.model.specs.declared.Entry.{Entry}
 use Rattle.model.specs.declared.Table.{Table}
 use Rattle.rules.specs.Ahead.{fitsAhead}

@@ -18,7 +18,7 @@ use Rattle.lists.specs.Tests.{both-and, and-false}
 use Rattle.lists.specs.All.{All, stop, and, head, all-map}
 use Rattle.lists.specs.Sums.{sum-zero}
 use Rattle.rules.specs.Slots.{JobName, Slot, Run, runsFrom, gives}
-use Rattle.rules.specs.Window.{rises}
+use Rattle.rules.specs.Reading.{rises}
 use Rattle.service.specs.Choice.{wins, wins-most}
 use Rattle.service.specs.Cuts.{nameIn, no-job, slot, Cuts, over, skip, cut, same-slot, cuts-from, cuts-all}
 

@@ -1,13 +1,26 @@
--- The window over a plan: its answer word and the part that it hands back. Document 01, "Reading, lending, printing".
--- ws are the plan's words, n is the record count. Assumes nothing.
+-- Reading: an enquiry's entry, and the window over a plan with its answer word and the part that it hands back. Document 01,
+-- "Reading, lending, printing". ws are the plan's words, n is the record count. Assumes nothing.
 use Prim.Native.Nat.{ℕ, zero, suc, _*_, _-_}
 use mathlib.Core.Bool.{Bool, true, cond, not, _&&_}
 use mathlib.Core.List.{List, [], _∷_}
 use lib.Dec.{ltb, eqb}
 use lib.ListN.{length, take, drop, getD}
 use Rattle.model.specs.Checks.{check, refusal}
-use Rattle.rules.specs.Calls.{recordWords}
+use Rattle.model.specs.Entries.{freeEntry, isStream}
+use Rattle.model.specs.declared.Entry.{Entry}
+use Rattle.model.specs.declared.Table.{Table}
+use Rattle.rules.specs.Calls.{recordWords, heldOf}
 
+-- ---- enquiry
+-- the whole entry, or zeros
+unfoldable pub entryFor : ℕ → List Entry → Entry
+entryFor s [] = freeEntry
+entryFor s (e ∷ es) = let r = entryFor s es in cond (isStream s e) e r
+
+abbrev pub enquired : Table → ℕ → Entry
+enquired t s = entryFor s (heldOf t)
+
+-- ---- window
 -- the starts of the first n records: the third word of each
 unfoldable pub startsOf : ℕ → List ℕ → List ℕ
 startsOf zero ws = []
