@@ -17,7 +17,7 @@ use Rattle.lists.specs.Sums.{sum-le, sum-keep, sum-map}
 use Rattle.lists.specs.Picked.{Picked, here, there, picked-all, picked-sum}
 use Rattle.theory.specs.Time.{span-le}
 use Rattle.theory.specs.Edf.{dem}
-use Rattle.model.specs.Checks.{refusal}
+use Rattle.model.specs.Requests.{refusal}
 use Rattle.model.specs.Entries.{freeEntry, isHeld, isStream, entryOf}
 use Rattle.model.specs.declared.Entry.{Entry}
 use Rattle.model.specs.declared.Request.{Request}

@@ -5,7 +5,7 @@ use mathlib.Core.List.{_∷_}
 use Prim.Native.Nat.{ℕ}
 use Rattle.lists.specs.Tests.{clash}
 use Rattle.lists.specs.All.{All}
-use Rattle.model.specs.Checks.{refusal}
+use Rattle.model.specs.Requests.{refusal}
 use Rattle.model.specs.Entries.{entryOf}
 use Rattle.model.specs.declared.Request.{Request}
 use Rattle.model.specs.declared.Table.{Table}

@@ -9,8 +9,7 @@ use lib.Dec.{ltb, leb, eqb}
 use lib.ListN.{length, getD}
 use Rattle.lists.specs.Lists.{within, one-if, sumOf, anyOf, span}
 use Rattle.lists.specs.All.{All}
-use Rattle.model.specs.Checks.{Check, check, refusal}
-use Rattle.model.specs.Requests.{streamInRange, fieldChecks}
+use Rattle.model.specs.Requests.{Check, check, refusal, streamInRange, fieldChecks}
 use Rattle.model.specs.declared.Request.{Request}
 use Rattle.rules.specs.Slots.{Run, gives}
 use Rattle.exact.specs.Assignment.{Assignment, assigned}

@@ -11,7 +11,7 @@ use Rattle.lists.specs.Lists.{keep}
 use Rattle.lists.specs.Tests.{clash}
 use Rattle.lists.specs.All.{All, stop, and, all-map, all-keep, all-append, all-of-map, all-both}
 use Rattle.lists.specs.Picked.{Paired, done, pair, paired-with, paired-left, paired-keep}
-use Rattle.model.specs.Checks.{refusal}
+use Rattle.model.specs.Requests.{refusal}
 use Rattle.model.specs.Entries.{freeEntry, isHeld, isStream, entryOf}
 use Rattle.model.specs.declared.Entry.{Entry}
 use Rattle.model.specs.declared.Request.{Request}

@@ -12,7 +12,7 @@ use Rattle.lists.specs.Lists.{within, anyOf}
 use Rattle.lists.specs.Tests.{either}
 use Rattle.lists.specs.All.{All, stop, and, head, tail, all-append, any-none, none-any}
 use Rattle.lists.specs.Picked.{done, paired-length, paired-with, paired-left, paired-right, paired-any}
-use Rattle.model.specs.Checks.{check, refusal}
+use Rattle.model.specs.Requests.{check, refusal}
 use Rattle.model.specs.Entries.{freeEntry, entryOf, isStream}
 use Rattle.model.specs.declared.Entry.{Entry}
 use Rattle.model.specs.declared.Request.{Request}

@@ -10,8 +10,7 @@ use lib.Dec.{leb, eqb}
 use borrow.Author.Tests.{leb-true, le-leb, eqb-true, eq-eqb}
 use Rattle.lists.specs.Lists.{within}
 use Rattle.lists.specs.Tests.{and-both, both-and, within-both, both-within}
-use Rattle.model.specs.Checks.{refusal}
-use Rattle.model.specs.Requests.{inOrder, rangeChecks}
+use Rattle.model.specs.Requests.{refusal, inOrder, rangeChecks}
 use Rattle.model.specs.Answers.{fieldsAnswer}
 use Rattle.model.specs.Requests.{fractionPeriod, fractionAmounts, fractionLife, wholePeriod, wholeAmounts, wholeLife}
 use Rattle.model.specs.Requests.{transferPeriod, transferAmounts, transferLife}

@@ -11,8 +11,7 @@ use lib.Dec.{leb, eqb}
 use lib.ListN.{length}
 use borrow.Author.Tests.{not-false}
 use Rattle.lists.specs.All.{All, stop, and, head, tail, all-map, all-append, all-left, all-right}
-use Rattle.model.specs.Checks.{Check, check, refusal}
-use Rattle.model.specs.Requests.{streamInRange, fractionChecks, wholeChecks, transferChecks, fieldChecks}
+use Rattle.model.specs.Requests.{Check, check, refusal, streamInRange, fractionChecks, wholeChecks, transferChecks, fieldChecks}
 use Rattle.model.specs.Answers.{fieldsAnswer}
 use Rattle.model.specs.Entries.{entryOf}
 use Rattle.model.specs.declared.Request.{Request}

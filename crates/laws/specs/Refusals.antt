@@ -7,7 +7,7 @@ use Prim.Native.Nat.{ℕ, _*_}
 use lib.Dec.{ltb}
 use lib.ListN.{length}
 use borrow.Author.Tests.{ne-eqb}
-use Rattle.model.specs.Checks.{refusal}
+use Rattle.model.specs.Requests.{refusal}
 use Rattle.model.specs.Entries.{freeEntry, isStream}
 use Rattle.model.specs.declared.Entry.{Entry}
 use Rattle.model.specs.declared.Request.{Request}

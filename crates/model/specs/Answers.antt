@@ -1,8 +1,7 @@
 -- What the code of this crate answers, in the document's numbers; and the fields that an entry was offered with. Document 01, "Where each refusal is checked". Assumes nothing.
 use Prim.Native.Nat.{ℕ}
 use mathlib.Core.Bool.{cond}
-use Rattle.model.specs.Checks.{refusal}
-use Rattle.model.specs.Requests.{fieldChecks}
+use Rattle.model.specs.Requests.{refusal, fieldChecks}
 use Rattle.model.specs.Entries.{isKind}
 use Rattle.model.specs.declared.Entry.{Entry}
 use Rattle.model.specs.declared.Request.{Request}

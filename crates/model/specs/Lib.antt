@@ -1,4 +1,3 @@
-pub mod Checks
 pub mod Requests
 pub mod Entries
 pub mod Answers

@@ -3,8 +3,7 @@ use Prim.Native.Nat.{ℕ}
 use mathlib.Core.Path.{_≡_, refl}
 use mathlib.Core.Logic.{_≢_}
 use borrow.Author.Tests.{eq-eqb, ne-eqb}
-use Rattle.model.specs.Checks.{refusal}
-use Rattle.model.specs.Requests.{fractionChecks, wholeChecks, transferChecks, fieldChecks}
+use Rattle.model.specs.Requests.{refusal, fractionChecks, wholeChecks, transferChecks, fieldChecks}
 use Rattle.model.specs.Answers.{fieldsAnswer}
 use Rattle.model.specs.declared.Request.{Request}
 

@@ -1,13 +1,26 @@
--- One request: the least and largest value of each field, for each kind. Document 01, "Units and one request".
--- B is the number of slots of an interval. Assumes nothing.
+-- Refusals in their order, and the least and largest value of each field of a request, for each kind. Document 01, "Where each refusal
+-- is checked" and "Units and one request". B is the number of slots of an interval. Assumes nothing.
 use Prim.Native.Nat.{ℕ, _*_, _/_, _%_}
 use mathlib.Core.Bool.{Bool, true, cond, not, _&&_}
 use mathlib.Core.List.{List, [], _∷_}
 use lib.Dec.{leb, eqb}
 use Rattle.lists.specs.Lists.{within}
-use Rattle.model.specs.Checks.{Check, check}
 use Rattle.model.specs.declared.Request.{Request}
 
+-- a row of the table of refusals: its number, and whether its condition holds
+pub record Check : Type 0 where
+  pub number : ℕ
+  pub applies : Bool
+
+abbrev pub check : ℕ → Bool → Check
+check n b = record { number = n; applies = b }
+
+-- the first that applies; 0 where none does
+unfoldable pub refusal : List Check → ℕ
+refusal [] = 0
+refusal (c ∷ cs) = let r = refusal cs in cond (c .applies) (c .number) r
+
+-- ---- the least and largest value of each field
 abbrev pub streamInRange : ℕ → Bool
 streamInRange s = within 1 65535 s
 

@@ -8,8 +8,7 @@ use Rattle.model.specs.Entries.{freeEntry, isHeld, isKind, isPiece}
 use Rattle.model.specs.declared.Entry.{Entry}
 use Rattle.rules.specs.Share.{Grant, slotsFor, overfull, stepB}
 
--- ---- F. one entry, with its step B slots b and its step C slots c
--- the entry with another life left, owed, given and intervals left
+-- F. the entry with another life left, owed, given and intervals left
 abbrev pub standing : Entry → (lives owed given left : ℕ) → Entry
 standing e lives owed given left =
     record {
@@ -26,7 +25,7 @@ standing e lives owed given left =
       left = record { 0 = left };
     }
 
--- owed falls by b, given grows by b and c, life and intervals left fall by one; kind 1 has a life alone
+-- with step B slots b and step C slots c owed falls by b, given grows by b and c, life and intervals left fall by one; kind 1 has a life alone
 unfoldable pub passed : (b c : ℕ) → Entry → Entry
 passed b c e =
     let for-pieces : ℕ → ℕ = cond (isKind 1 e) 0 in
@@ -44,8 +43,7 @@ settled e = cond (eqb (e .«life_left» .0) 0) freeEntry (cond (isKind 2 e && eq
 unfoldable pub stepF : (bs cs : List Grant) → List Entry → List Entry
 stepF bs cs es = map (λ (e : Entry). settled (passed (slotsFor (e .stream) bs) (slotsFor (e .stream) cs) e)) es
 
--- ---- looking ahead: steps A, B and F, interval by interval
--- a kind 2 or 3 request ends the interval of its deadline with owed above 0
+-- Looking ahead, steps A, B and F, interval by interval: a kind 2 or 3 request ends the interval of its deadline with owed above 0
 abbrev pub misses : List Grant → Entry → Bool
 misses bs e = isPiece e && (eqb (e .left .0) 1 && ltb (slotsFor (e .stream) bs) (e .owed .0))
 

@@ -6,8 +6,7 @@ use mathlib.Core.List.{List, [], _∷_, _++_, map}
 use lib.Dec.{ltb, leb, eqb}
 use lib.ListN.{length, drop, replicate}
 use Rattle.lists.specs.Lists.{within, keep, anyOf}
-use Rattle.model.specs.Checks.{Check, check, refusal}
-use Rattle.model.specs.Requests.{streamInRange, fieldChecks}
+use Rattle.model.specs.Requests.{Check, check, refusal, streamInRange, fieldChecks}
 use Rattle.model.specs.Entries.{freeEntry, isHeld, isStream, entryOf}
 use Rattle.model.specs.declared.Entry.{Entry}
 use Rattle.model.specs.declared.Request.{Request}
@@ -26,21 +25,21 @@ recordWords = 4
 abbrev pub mostRecords : ℕ
 mostRecords = 1024
 
--- ---- opening, with u time units of 1,024 slots
+-- opening, with u time units of 1,024 slots
 unfoldable pub openAnswer : ℕ → ℕ
 openAnswer u = refusal (check 1 (not (within 1 1000 u)) ∷ [])
 
 unfoldable pub opened : ℕ → Table
 opened u = record { interval = record { 0 = 1024 * u }; entries = replicate places freeEntry }
 
--- ---- what a table holds
+-- what a table holds
 abbrev pub heldOf : Table → List Entry
 heldOf t = keep isHeld (t .entries)
 
 abbrev pub holds : Table → ℕ → Bool
 holds t s = anyOf (isStream s) (heldOf t)
 
--- ---- offer
+-- an offer's answer
 unfoldable pub offerAnswer : Table → Request → ℕ
 offerAnswer t q =
     refusal
@@ -60,7 +59,7 @@ unfoldable pub offered : Table → Request → Table
 offered t q =
     cond (eqb (offerAnswer t q) 0) (record { interval = t .interval; entries = placed (entryOf q) (t .entries) }) t
 
--- ---- withdrawal and enquiry
+-- a withdrawal's and an enquiry's
 unfoldable pub heldAnswer : Table → ℕ → ℕ
 heldAnswer t s = refusal (check 20 (not (holds t s)) ∷ [])
 
@@ -70,7 +69,7 @@ withdrawn t s =
     let freed = map (λ (e : Entry). cond (isStream s e) freeEntry e) (t .entries) in
     cond (holds t s) (record { interval = t .interval; entries = freed }) t
 
--- ---- beacon
+-- the words of a plan
 unfoldable pub wordsOf : List Run → List ℕ
 wordsOf [] = []
 wordsOf (r ∷ rs) = r .stream ∷ r .job ∷ r .start ∷ r .length ∷ wordsOf rs

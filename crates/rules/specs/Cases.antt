@@ -6,8 +6,7 @@ use mathlib.Core.Bool.{Bool, true, false, _&&_}
 use mathlib.Core.List.{List, [], _∷_, _++_}
 use lib.Dec.{eqb}
 use lib.ListN.{take, replicate}
-use Rattle.model.specs.Checks.{refusal}
-use Rattle.model.specs.Requests.{fieldChecks}
+use Rattle.model.specs.Requests.{refusal, fieldChecks}
 use Rattle.model.specs.Entries.{entryOf}
 use Rattle.model.specs.declared.Request.{Request}
 use Rattle.model.specs.declared.Table.{Table}

@@ -5,7 +5,7 @@ use mathlib.Core.Bool.{Bool, true, cond, not, _&&_}
 use mathlib.Core.List.{List, [], _∷_}
 use lib.Dec.{ltb, eqb}
 use lib.ListN.{length, take, drop, getD}
-use Rattle.model.specs.Checks.{check, refusal}
+use Rattle.model.specs.Requests.{check, refusal}
 use Rattle.model.specs.Entries.{freeEntry, isStream}
 use Rattle.model.specs.declared.Entry.{Entry}
 use Rattle.model.specs.declared.Table.{Table}

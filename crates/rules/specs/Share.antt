@@ -8,8 +8,7 @@ use Rattle.lists.specs.Lists.{keep, sumOf, sort}
 use Rattle.model.specs.Entries.{isKind, isPiece}
 use Rattle.model.specs.declared.Entry.{Entry}
 
--- ---- A. capacity
--- what kind 1 takes: m times min, of each
+-- A. capacity: what kind 1 takes, m times min, of each
 unfoldable pub load : List Entry → ℕ
 load es = sumOf (λ (e : Entry). cond (isKind 1 e) (e .parts * e .min .0) 0) es
 
@@ -21,8 +20,7 @@ overfull B es = ltb B (load es)
 abbrev pub capacity : ℕ → List Entry → ℕ
 capacity B es = B - load es
 
--- ---- B. kinds 2 and 3 take what they are owed
--- slots of the interval for a stream
+-- B. kinds 2 and 3 take what they are owed: slots of the interval for a stream
 pub record Grant : Type 0 where
   pub stream : ℕ
   pub slots : ℕ
@@ -57,8 +55,7 @@ stepB B es = take-turns (capacity B es) (order es)
 unfoldable pub remains : ℕ → List Entry → ℕ
 remains B es = capacity B es - sumOf (λ (g : Grant). g .slots) (stepB B es)
 
--- ---- C. what remains is shared in proportion
--- d, for an entry with b slots of step B: what it may still get; a transfer has no part in it
+-- C. what remains is shared in proportion: d, for an entry with b slots of step B: what it may still get; a transfer has no part in it
 abbrev pub headroom : Entry → ℕ → ℕ
 headroom e b = cond (isKind 1 e) (e .max .0 - e .min .0) (cond (isKind 2 e) (e .max .0 - e .given .0 - b) 0)
 

@@ -9,7 +9,7 @@ use Rattle.model.specs.Entries.{isKind}
 use Rattle.model.specs.declared.Entry.{Entry}
 use Rattle.rules.specs.Share.{Grant, slotsFor, order, jobCount, stepB, stepC}
 
--- ---- D. jobs
+-- D. a job of the interval
 pub record Job : Type 0 where
   pub stream : ℕ
   pub number : ℕ
@@ -58,7 +58,7 @@ jobs B es =
     let cs = stepC B es in
     concatMap (jobsOf B bs cs) (tieOrder es)
 
--- ---- slot by slot
+-- is it released and unfinished at slot s?
 abbrev pub isReady : ℕ → Job → Bool
 isReady s j = leb (j .release) s && ltb 0 (j .need)
 
@@ -102,7 +102,7 @@ slotsFrom (suc n) s js = let c = slotOf (choose s js) in c ∷ slotsFrom n (suc 
 unfoldable pub stepD : ℕ → List Entry → List Slot
 stepD B es = slotsFrom B 0 (jobs B es)
 
--- ---- E. one record for each longest run of slots of one job, by start
+-- E. one record for each longest run of slots of one job, by start
 pub record Run : Type 0 where
   pub stream : ℕ
   pub job : ℕ

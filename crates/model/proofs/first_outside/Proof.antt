@@ -1,4 +1,4 @@
-use Rattle.model.specs.Checks.{refusal}
+use Rattle.model.specs.Requests.{refusal}
 use Rattle.model.proofs.first_outside.Statement.{statement}
 use Rattle.model.proofs.first_outside.Tie as tie
 
