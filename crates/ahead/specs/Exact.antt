@@ -15,7 +15,7 @@ use Rattle.lists.specs.All.{All, head, all-zip, most-all, any-none, none-any}
 use Rattle.theory.specs.Edf.{rem, left}
 use Rattle.model.specs.Entries.{isPiece}
 use Rattle.model.specs.declared.Entry.{Entry}
-use Rattle.rules.specs.Share.{load, overfull, slotsFor, stepB}
+use Rattle.rules.specs.Share.{load, overfull, stepB}
 use Rattle.rules.specs.Ahead.{misses, goesWell, fitsAhead}
 use Rattle.rules.specs.WellFormed.{Held}
 use Rattle.laws.specs.Held.{held-kinds, piece-of, fraction-not}

@@ -1,20 +1,20 @@
 -- Where the entries fit: kind 1 leaves something of every interval to come, and in what it leaves there is room for the others. Step B is
 -- a greedy step of the theory, so an interval keeps the fit and misses no deadline; and a fit after an interval without a miss shows
 -- one before it. Assumes nothing.
-use mathlib.Core.Path.{_≡_, refl, sym, ap, subst, fun-ext, _∙_}
+use mathlib.Core.Path.{_≡_, refl, ap, subst, fun-ext, _∙_}
 use mathlib.Core.Bool.{Bool, true, false, cond}
 use mathlib.Core.List.{List}
 use Prim.Native.Nat.{ℕ, zero, suc, _*_, _-_, _/_, _≤_, zero-le}
 use native.Mathlib.Omega.{arith}
 use Rattle.lists.specs.Lists.{sumOf, span}
-use Rattle.lists.specs.All.{All, all-map}
+use Rattle.lists.specs.All.{all-map}
 use Rattle.lists.specs.Sums.{sum-ext, sum-same}
 use Rattle.theory.specs.Time.{due}
 use Rattle.theory.specs.Edf.{Source, source, rem, left, gone, next, dem, Room, Greedy, NoMiss, no-miss, room-next, greedy-total}
 use Rattle.theory.specs.Converse.{room-back}
 use Rattle.model.specs.Entries.{isKind, isPiece}
 use Rattle.model.specs.declared.Entry.{Entry}
-use Rattle.rules.specs.Share.{Grant, load, slotsFor, capacity, stepB}
+use Rattle.rules.specs.Share.{Grant, load, slotsFor, capacity}
 use Rattle.laws.specs.Sources.{sourceOf, loadAt, free-source, source-next, held-sound, load-free, load-now, load-next}
 use Rattle.laws.specs.Turns.{stepBOf, stepB-within, stepB-due}
 use Rattle.ahead.specs.Moved.{Together, stepOf, moved, Extras, moved-sum}
@@ -37,7 +37,8 @@ pieceOf B es e = cond (isPiece e) (stepBOf B es e) 0
 -- the load that step A counts
 pub loads-now : (B : ℕ) (es : List Entry) → Together B es → load es ≡ loadsAt es 0
 unfolding load
-loads-now B es w = sum-ext (λ (e : Entry). cond (isKind 1 e) (e .parts * e .min .0) 0) (λ e. loadAt e 0) (all-map (λ e h. load-now h) (w .held))
+loads-now B es w =
+    sum-ext (λ (e : Entry). cond (isKind 1 e) (e .parts * e .min .0) 0) (λ e. loadAt e 0) (all-map (λ e h. load-now h) (w .held))
 
 -- ---- step B is a greedy step
 stepB-greedy : (B : ℕ) (es : List Entry) → Together B es → Greedy sourceOf es (pieceOf B es) (capacity B es)
@@ -50,8 +51,8 @@ stepB-greedy B es w =
         stepB-due B es (w .once) d,
         sum-same (λ e. due (left (sourceOf e)) d (pieceOf B es e)) (λ e. cond (isPiece e) (due (e .left .0) d (stepBOf B es e)) 0) es
             (λ e. given e (isPiece e) d (stepBOf B es e)),
-        sum-same (λ e. due (left (sourceOf e)) d (rem (sourceOf e))) (λ (e : Entry). cond (isPiece e) (due (e .left .0) d (e .owed .0)) 0) es
-            (λ e. owed e (isPiece e) d),
+        sum-same (λ e. due (left (sourceOf e)) d (rem (sourceOf e)))
+            (λ (e : Entry). cond (isPiece e) (due (e .left .0) d (e .owed .0)) 0) es (λ e. owed e (isPiece e) d),
       );
     }
   where
@@ -117,7 +118,8 @@ module _ (B : ℕ) (cs : List Grant) (es : List Entry) (w : Together B es) (x : 
   fits-back l m f =
       record {
         load = each;
-        room = room-back sourceOf (spareAt B es) (all-map (λ e h. held-sound h) (w .held)) (omega (arith, greedy-total sourceOf greedy-now)) m
+        room = room-back sourceOf (spareAt B es) (all-map (λ e h. held-sound h) (w .held))
+            (omega (arith, greedy-total sourceOf greedy-now)) m
             (λ s d. omega (arith, moved-dems s d, f .room s d, ap (λ c. span c s d) moved-spare));
       }
     where

@@ -1,40 +1,36 @@
 -- Every call keeps a table well formed: opening gives such a table, and offers, withdrawals and beacons, refused ones among them,
 -- leave one. So looking ahead accepts every table that calls reach. Assumes nothing.
-use mathlib.Core.Path.{_≡_, refl, sym, ap, subst, fun-ext, _∙_}
+use mathlib.Core.Path.{_≡_, refl, sym, ap, subst, _∙_}
 use mathlib.Core.Logic.{_⊎_, inl, inr, ⊎-elim}
-use mathlib.Core.Bool.{Bool, true, false, cond, not}
-use mathlib.Core.List.{List, [], _∷_, map}
-use Prim.Native.Nat.{ℕ, zero, suc, _*_, _-_, _≤_, _<_, zero-le}
+use mathlib.Core.Bool.{Bool, true, false, cond}
+use mathlib.Core.List.{List, _∷_, map}
+use Prim.Native.Nat.{ℕ, zero, suc, _*_, _-_, _≤_, zero-le}
 use native.Mathlib.Nat.{le-refl}
 use native.Mathlib.Omega.{arith}
-use lib.Dec.{ltb, leb, eqb, eqb·suc-zero}
+use lib.Dec.{ltb, eqb, eqb·suc-zero}
 use lib.ListN.{length, replicate, length-replicate, length-map}
 use borrow.Author.Tests.{leb-false}
-use Rattle.lists.specs.Lists.{within, one-if, cons-if, keep, sumOf, span, anyOf}
-use Rattle.lists.specs.Tests.{clash, within-both, cond-le}
-use Rattle.lists.specs.All.{All, stop, and, head, tail, all-map, all-zip, all-of, all-keep, all-of-map, all-kept, any-none}
+use Rattle.lists.specs.Lists.{within, one-if, keep, sumOf}
+use Rattle.lists.specs.All.{All, stop, and, all-map, all-zip, all-of, all-keep, all-of-map, all-kept, any-none}
 use Rattle.lists.specs.Sums.{sum-le, sum-keep, sum-map}
-use Rattle.lists.specs.Picked.{Picked, here, there, picked-all, picked-sum}
-use Rattle.theory.specs.Time.{span-le}
-use Rattle.theory.specs.Edf.{dem}
+use Rattle.lists.specs.Picked.{Picked}
 use Rattle.model.specs.Requests.{refusal}
 use Rattle.model.specs.Entries.{freeEntry, isHeld, isStream, entryOf}
 use Rattle.model.specs.declared.Entry.{Entry}
 use Rattle.model.specs.declared.Request.{Request}
 use Rattle.model.specs.declared.Table.{Table}
-use Rattle.rules.specs.Share.{slotsFor, stepB, stepC}
+use Rattle.rules.specs.Share.{slotsFor, stepC}
 use Rattle.rules.specs.Ahead.{stepF, goesWell, fitsAhead}
-use Rattle.rules.specs.Calls.{places, opened, heldOf, holds, offerAnswer, placed, offered, heldAnswer, withdrawn, advanced, planOf}
+use Rattle.rules.specs.Calls.{places, opened, heldOf, holds, offerAnswer, placed, offered, withdrawn, advanced, planOf}
 use Rattle.rules.specs.Calls.{recordWords, mostRecords, refusedBeacon, plannedBeacon, beacon}
-use Rattle.rules.specs.WellFormed.{Held, Once, WellFormed}
+use Rattle.rules.specs.WellFormed.{Held, WellFormed}
 use Rattle.laws.specs.Grants.{once-cons}
 use Rattle.laws.specs.Held.{held-is, entry-held}
 use Rattle.laws.specs.Settled.{Granted, settled-held, after-free}
-use Rattle.laws.specs.Sources.{sourceOf, loadAt}
 use Rattle.laws.specs.Offers.{offerChecksBut, Passed, checks-passed, isFull, fits, answer-fits, answer-passed}
 use Rattle.laws.specs.Turns.{stepBOf}
 use Rattle.ahead.specs.Moved.{Together, stepOf, moved, own-extras, moved-together}
-use Rattle.ahead.specs.Fits.{Fits, loadsAt, spareAt, fits-on}
+use Rattle.ahead.specs.Fits.{Fits, fits-on}
 use Rattle.ahead.specs.Exact.{ahead-fits, fits-ahead}
 use Rattle.ahead.specs.Tables.{real, formed-together, formed-fits, picked-together, picked-fits, fewer-fits}
 use Rattle.ahead.specs.Tables.{placed-all, placed-length, placed-picked, keep-free}
@@ -57,41 +53,43 @@ opened-formed u h =
 
 -- ---- an offer
 -- an offer that passes every check but the last
-module _ (t : Table) (w : WellFormed t) (q : Request) (h : refusal (offerChecksBut (holds t (q .stream)) (isFull t q) (t .interval .0) q) ≡ 0) where
-  abbrev B : ℕ
-  B = t .interval .0
+module _ (t : Table) (w : WellFormed t) (q : Request)
+    (h : refusal (offerChecksBut (holds t (q .stream)) (isFull t q) (t .interval .0) q) ≡ 0)
+  where
+    abbrev B : ℕ
+    B = t .interval .0
 
-  passed-checks : Passed (holds t (q .stream)) (isFull t q) B q
-  passed-checks = checks-passed (holds t (q .stream)) (isFull t q) B q h
+    passed-checks : Passed (holds t (q .stream)) (isFull t q) B q
+    passed-checks = checks-passed (holds t (q .stream)) (isFull t q) B q h
 
-  pub passed-held : Held B (entryOf q)
-  passed-held = entry-held B q (passed-checks .name) (passed-checks .fields)
+    pub passed-held : Held B (entryOf q)
+    passed-held = entry-held B q (passed-checks .name) (passed-checks .fields)
 
-  -- with the offered request the entries stand together, and fit
-  pub passed-together : Together B (entryOf q ∷ heldOf t)
-  unfolding entryOf
-  passed-together =
-      record {
-        held = and passed-held (formed-together w .held);
-        once = once-cons (entryOf q) (heldOf t) (any-none (isStream (q .stream)) (heldOf t) (passed-checks .free)) (w .once);
-      }
+    -- with the offered request the entries stand together, and fit
+    pub passed-together : Together B (entryOf q ∷ heldOf t)
+    unfolding entryOf
+    passed-together =
+        record {
+          held = and passed-held (formed-together w .held);
+          once = once-cons (entryOf q) (heldOf t) (any-none (isStream (q .stream)) (heldOf t) (passed-checks .free)) (w .once);
+        }
 
-  pub passed-picked : Picked (entryOf q) (keep isHeld (placed (entryOf q) (t .entries))) (heldOf t)
-  passed-picked =
-      placed-picked (entryOf q) (t .entries) (held-is passed-held)
-      (omega (arith, w .size, leb-false places (length (heldOf t)) (passed-checks .place)))
+    pub passed-picked : Picked (entryOf q) (keep isHeld (placed (entryOf q) (t .entries))) (heldOf t)
+    passed-picked =
+        placed-picked (entryOf q) (t .entries) (held-is passed-held)
+        (omega (arith, w .size, leb-false places (length (heldOf t)) (passed-checks .place)))
 
-  passed-formed : fits t q ≡ true → WellFormed (record { interval = t .interval; entries = placed (entryOf q) (t .entries) })
-  passed-formed y =
-      let together = picked-together B passed-picked passed-together in
-      record {
-        units = w .units;
-        size = placed-length (entryOf q) (t .entries) ∙ w .size;
-        entries = placed-all (entryOf q) (inr passed-held) (w .entries);
-        once = together .once;
-        fits = fits-ahead B (keep isHeld (placed (entryOf q) (t .entries))) together
-            (picked-fits B passed-picked (ahead-fits B (entryOf q ∷ heldOf t) passed-together y));
-      }
+    passed-formed : fits t q ≡ true → WellFormed (record { interval = t .interval; entries = placed (entryOf q) (t .entries) })
+    passed-formed y =
+        let together = picked-together B passed-picked passed-together in
+        record {
+          units = w .units;
+          size = placed-length (entryOf q) (t .entries) ∙ w .size;
+          entries = placed-all (entryOf q) (inr passed-held) (w .entries);
+          once = together .once;
+          fits = fits-ahead B (keep isHeld (placed (entryOf q) (t .entries))) together
+              (picked-fits B passed-picked (ahead-fits B (entryOf q ∷ heldOf t) passed-together y));
+        }
 
 pub offered-formed : (t : Table) (q : Request) → WellFormed t → WellFormed (offered t q)
 unfolding offered
@@ -114,7 +112,8 @@ module _ (t : Table) (w : WellFormed t) (s : ℕ) where
         sum-keep f isHeld (map freed (t .entries)),
         sum-map (λ e. cond (isHeld e) (f e) 0) freed (t .entries),
         sum-keep f isHeld (t .entries),
-        sum-le (λ e. cond (isHeld (freed e)) (f (freed e)) 0) (λ e. cond (isHeld e) (f e) 0) (all-of (t .entries) (λ e. one e (isStream s e))),
+        sum-le (λ e. cond (isHeld (freed e)) (f (freed e)) 0) (λ e. cond (isHeld e) (f e) 0)
+            (all-of (t .entries) (λ e. one e (isStream s e))),
       )
     where
       one : (e : Entry) (b : Bool) → cond (isHeld (cond b freeEntry e)) (f (cond b freeEntry e)) 0 ≤ cond (isHeld e) (f e) 0
@@ -150,7 +149,8 @@ unfolding withdrawn
 withdrawn-formed t s w = go (holds t s)
   where
     go : (b : Bool)
-        → WellFormed (cond b (record { interval = t .interval; entries = map (λ (e : Entry). cond (isStream s e) freeEntry e) (t .entries) }) t)
+        → WellFormed
+        (cond b (record { interval = t .interval; entries = map (λ (e : Entry). cond (isStream s e) freeEntry e) (t .entries) }) t)
     go true = freed-formed t w s
     go false = w
 
@@ -173,10 +173,12 @@ module _ (t : Table) (w : WellFormed t) where
   advanced-entries =
       all-of-map steps
       (all-zip (λ e h g. one e h g) (w .entries)
-      (all-kept (λ e. Granted (stepBOf slots es e) (slotsFor (e .stream) (stepC slots es)) e) isHeld (t .entries) (own-extras slots es (w .once))))
+      (all-kept (λ e. Granted (stepBOf slots es e) (slotsFor (e .stream) (stepC slots es)) e) isHeld (t .entries)
+      (own-extras slots es (w .once))))
     where
       one : (e : Entry) → (e ≡ freeEntry) ⊎ Held slots e
-          → (isHeld e ≡ true → Granted (stepBOf slots es e) (slotsFor (e .stream) (stepC slots es)) e) → (steps e ≡ freeEntry) ⊎ Held slots (steps e)
+          → (isHeld e ≡ true → Granted (stepBOf slots es e) (slotsFor (e .stream) (stepC slots es)) e)
+          → (steps e ≡ freeEntry) ⊎ Held slots (steps e)
       one e (inl q) g = inl (ap steps q ∙ after-free _ _)
       one e (inr h) g = ⊎-elim inl (λ r. inr (r .1)) (settled-held slots _ _ e h (g (held-is h)))
 

@@ -42,7 +42,9 @@ Extras B cs es = All (λ e. Granted (stepBOf B es e) (slotsFor (e .stream) cs) e
 -- ---- the extras of step C, and none, as looking ahead has it
 module _ (B : ℕ) (es : List Entry) (w : Once es) where
   pub no-extras : Extras B [] es
-  no-extras = all-map (λ e h. record { owed = h; extra = omega (arith, slots-none (e .stream)); last = λ q. inl (slots-none (e .stream)) }) (stepB-within B es w)
+  no-extras =
+      all-map (λ e h. record { owed = h; extra = omega (arith, slots-none (e .stream)); last = λ q. inl (slots-none (e .stream)) })
+      (stepB-within B es w)
 
   pub own-extras : Extras B (stepC B es) es
   own-extras =

@@ -1,40 +1,27 @@
 -- Entries and tables: the held entries of a well-formed table stand together and fit; so do the same entries in other places, and
 -- fewer of them; and what a change of every place, or a new entry in a free place, makes of the held entries. Assumes nothing.
-use mathlib.Core.Path.{_≡_, refl, sym, ap, subst, fun-ext, _∙_}
-use mathlib.Core.Logic.{_⊎_, inl, inr, ⊎-elim}
-use mathlib.Core.Bool.{Bool, true, false, cond, not}
+use mathlib.Core.Path.{_≡_, refl, ap, fun-ext}
+use mathlib.Core.Logic.{_⊎_, inl, inr}
+use mathlib.Core.Bool.{Bool, true, false, cond}
 use mathlib.Core.List.{List, [], _∷_, map}
-use Prim.Native.Nat.{ℕ, zero, suc, _*_, _-_, _≤_, _<_, zero-le}
-use native.Mathlib.Nat.{le-refl}
+use Prim.Native.Nat.{ℕ, suc, _-_, _≤_, _<_}
 use native.Mathlib.Omega.{arith}
-use lib.Dec.{ltb, leb, eqb, eqb·suc-zero}
-use lib.ListN.{length, replicate, length-replicate, length-map}
-use borrow.Author.Tests.{leb-false}
-use Rattle.lists.specs.Lists.{within, one-if, cons-if, keep, sumOf, span, anyOf}
-use Rattle.lists.specs.Tests.{clash, within-both, cond-le}
-use Rattle.lists.specs.All.{All, stop, and, head, tail, all-map, all-zip, all-of, all-keep, all-of-map, all-kept, any-none}
-use Rattle.lists.specs.Sums.{sum-le, sum-keep, sum-map}
+use lib.ListN.{length}
+use Rattle.lists.specs.Lists.{one-if, cons-if, keep, sumOf, span}
+use Rattle.lists.specs.Tests.{clash, within-both}
+use Rattle.lists.specs.All.{All, stop, and, head, tail, all-keep}
 use Rattle.lists.specs.Picked.{Picked, here, there, picked-all, picked-sum}
 use Rattle.theory.specs.Time.{span-le}
 use Rattle.theory.specs.Edf.{dem}
-use Rattle.model.specs.Requests.{refusal}
-use Rattle.model.specs.Entries.{freeEntry, isHeld, isStream, entryOf}
+use Rattle.model.specs.Entries.{freeEntry, isHeld, isStream}
 use Rattle.model.specs.declared.Entry.{Entry}
-use Rattle.model.specs.declared.Request.{Request}
 use Rattle.model.specs.declared.Table.{Table}
-use Rattle.rules.specs.Share.{slotsFor, stepB, stepC}
-use Rattle.rules.specs.Ahead.{stepF, goesWell, fitsAhead}
-use Rattle.rules.specs.Calls.{places, opened, heldOf, holds, offerAnswer, placed, offered, heldAnswer, withdrawn, advanced, planOf}
-use Rattle.rules.specs.Calls.{recordWords, mostRecords, refusedBeacon, plannedBeacon, beacon}
-use Rattle.rules.specs.WellFormed.{Held, Once, WellFormed}
-use Rattle.laws.specs.Grants.{once-cons}
-use Rattle.laws.specs.Held.{held-is, entry-held}
-use Rattle.laws.specs.Settled.{Granted, settled-held, after-free}
+use Rattle.rules.specs.Calls.{heldOf, placed}
+use Rattle.rules.specs.WellFormed.{Held, WellFormed}
 use Rattle.laws.specs.Sources.{sourceOf, loadAt}
-use Rattle.laws.specs.Turns.{stepBOf}
-use Rattle.ahead.specs.Moved.{Together, stepOf, moved, own-extras, moved-together}
-use Rattle.ahead.specs.Fits.{Fits, loadsAt, spareAt, fits-on}
-use Rattle.ahead.specs.Exact.{ahead-fits, fits-ahead}
+use Rattle.ahead.specs.Moved.{Together}
+use Rattle.ahead.specs.Fits.{Fits, loadsAt, spareAt}
+use Rattle.ahead.specs.Exact.{ahead-fits}
 
 -- ---- the held entries of a well-formed table
 pub real : {B : ℕ} (e : Entry) → isHeld e ≡ true → (e ≡ freeEntry) ⊎ Held B e → Held B e

@@ -5,7 +5,7 @@ use mathlib.Core.Logic.{_⊎_, inl, inr, _≢_}
 use mathlib.Core.Bool.{cond}
 use mathlib.Core.List.{List}
 use mathlib.Core.Option.{Option, none, some}
-use Prim.Native.Nat.{ℕ, suc, _+_, _*_, _/_, _≤_, _<_, zero-le}
+use Prim.Native.Nat.{ℕ, suc, _+_, _*_, _/_, _≤_, _<_}
 use native.Mathlib.Nat.{suc-mul, mul-comm, mul-le-mul-right, le-of-mul-le-mul-right}
 use native.Mathlib.Decide.{decLe}
 use native.Mathlib.Omega.{arith}
@@ -64,14 +64,20 @@ module _ {B : ℕ} {a : Assignment} {e : Entry} (h : Held B e) where
             (fed n .1 i (le-of-mul-le-mul-right {k = e .period .0} (omega (arith, p .lives)) (p .period-least))));
       }
     where
-      fed : (n : e .kind ≢ 1) → Fed (source (e .owed .0) (e .left .0) (e .min .0) (e .period .0) (other-piece h n .following)) (slotsTo B a e)
+      fed : (n : e .kind ≢ 1)
+          → Fed (source (e .owed .0) (e .left .0) (e .min .0) (e .period .0) (other-piece h n .following)) (slotsTo B a e)
       fed n = rw (piece-source (other-piece h n)) at (s .piece n)
 
 -- ---- each slot has one taker
 taker : (s : Option ℕ) (es : List Entry) → Once es → sumOf (λ (e : Entry). one-if (isTo (e .stream) s)) es ≤ 1
 taker none es w = omega (arith, sum-zero (λ (e : Entry). 0) (all-of es (λ e. refl)))
 taker (some x) es w =
-    omega (arith, w x, sum-same (λ (e : Entry). one-if (isTo (e .stream) (some x))) (λ (e : Entry). one-if (isStream x e)) es (λ e. ap one-if (eqb-sym x (e .stream))))
+    omega (
+      arith,
+      w x,
+      sum-same (λ (e : Entry). one-if (isTo (e .stream) (some x))) (λ (e : Entry). one-if (isStream x e)) es
+          (λ e. ap one-if (eqb-sym x (e .stream))),
+    )
 
 module _ (B : ℕ) (a : Assignment) where
   takers : (t : ℕ) (es : List Entry) → Once es → sumOf (λ e. slotsTo B a e t) es ≤ B
@@ -125,7 +131,8 @@ module _ (B : ℕ) (a : Assignment) where
           omega (
             arith,
             sum-add (λ e. loadAt e t) (λ e. cond (isPiece e) (slotsTo B a e t) 0) es,
-            sum-le (λ e. loadAt e t + cond (isPiece e) (slotsTo B a e t) 0) (λ e. slotsTo B a e t) (all-zip (λ e d s. shares e d s t) (w .held) h),
+            sum-le (λ e. loadAt e t + cond (isPiece e) (slotsTo B a e t) 0) (λ e. slotsTo B a e t)
+                (all-zip (λ e d s. shares e d s t) (w .held) h),
             takers t es (w .once),
           )
 
@@ -135,4 +142,5 @@ module _ (B : ℕ) (a : Assignment) where
           go : Fraction B e ⊎ Piece B e → Fed (sourceOf e) (λ t. cond (isPiece e) (slotsTo B a e t) 0)
           go (inl f) = rw (fraction-source e (f .kind)) (fed-gone _)
           go (inr p) =
-              subst (Fed (sourceOf e)) (fun-ext (λ t. sym (ap (λ b. cond b (slotsTo B a e t) 0) (piece-of e (p .kind))))) (s .piece (piece-other p))
+              subst (Fed (sourceOf e)) (fun-ext (λ t. sym (ap (λ b. cond b (slotsTo B a e t) 0) (piece-of e (p .kind)))))
+              (s .piece (piece-other p))

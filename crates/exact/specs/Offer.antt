@@ -17,18 +17,21 @@ use Rattle.ahead.specs.Formed.{passed-together}
 use Rattle.exact.specs.Assignment.{Assignment, ServesEntry}
 use Rattle.exact.specs.Plans.{plansAhead, ahead-serves, serves-ahead}
 
-module _ (t : Table) (w : WellFormed t) (q : Request) (h : refusal (offerChecksBut (holds t (q .stream)) (isFull t q) (t .interval .0) q) ≡ 0) where
-  abbrev B : ℕ
-  B = t .interval .0
+module _ (t : Table) (w : WellFormed t) (q : Request)
+    (h : refusal (offerChecksBut (holds t (q .stream)) (isFull t q) (t .interval .0) q) ≡ 0)
+  where
+    abbrev B : ℕ
+    B = t .interval .0
 
-  -- the assignment serves the entries and the offered request, which counts as accepted
-  abbrev pub ServesOffer : Assignment → Type 0
-  ServesOffer a = All (ServesEntry B a) (entryOf q ∷ heldOf t)
+    -- the assignment serves the entries and the offered request, which counts as accepted
+    abbrev pub ServesOffer : Assignment → Type 0
+    ServesOffer a = All (ServesEntry B a) (entryOf q ∷ heldOf t)
 
-  pub offer-served : offerAnswer t q ≡ 0 → (a : Assignment) × ServesOffer a
-  offer-served z =
-      (plansAhead B (entryOf q ∷ heldOf t), ahead-serves B (entryOf q ∷ heldOf t) (formed-some w) (passed-together t w q h) (answer-fits t q h z))
+    pub offer-served : offerAnswer t q ≡ 0 → (a : Assignment) × ServesOffer a
+    offer-served z =
+        let es = entryOf q ∷ heldOf t in
+        (plansAhead B es, ahead-serves B es (formed-some w) (passed-together t w q h) (answer-fits t q h z))
 
-  pub offer-hopeless : offerAnswer t q ≡ 17 → (a : Assignment) → ServesOffer a → ⊥
-  offer-hopeless z a s =
-      clash (fits t q) (serves-ahead B a (entryOf q ∷ heldOf t) (passed-together t w q h) s) (answer-not t q h z)
+    pub offer-hopeless : offerAnswer t q ≡ 17 → (a : Assignment) → ServesOffer a → ⊥
+    offer-hopeless z a s =
+        clash (fits t q) (serves-ahead B a (entryOf q ∷ heldOf t) (passed-together t w q h) s) (answer-not t q h z)

@@ -1,11 +1,11 @@
 -- Where the entries fit, the plans to come are an assignment that serves them: every interval gives each stream its minimum, or what
 -- step B takes, and misses no deadline; and after it the entries fit again. So looking ahead is exact. Assumes nothing.
 use mathlib.Core.Path.{_≡_, refl, sym, ap, subst, fun-ext, _∙_}
-use mathlib.Core.Logic.{_⊎_, inl, inr, _≢_}
+use mathlib.Core.Logic.{_⊎_, inl, inr}
 use mathlib.Core.Bool.{true, cond}
 use mathlib.Core.List.{List, [], _∷_}
 use mathlib.Core.Option.{Option, none, some}
-use Prim.Native.Nat.{ℕ, zero, suc, _+_, _*_, _/_, _≤_, _<_, zero-le}
+use Prim.Native.Nat.{ℕ, zero, suc, _+_, _*_, _/_, _≤_, _<_}
 use native.Mathlib.Nat.{zero-mul, one-mul}
 use native.Mathlib.Omega.{arith}
 use lib.ListN.{getD}
@@ -13,20 +13,20 @@ use borrow.Author.Tests.{eq-eqb}
 use Rattle.lists.specs.Lists.{one-if, mostOf, span}
 use Rattle.lists.specs.All.{All, stop, head, all-map, all-zip, all-both, all-unmap, all-kept}
 use Rattle.theory.specs.Time.{span-ext}
-use Rattle.theory.specs.Edf.{rem, left, gone, next}
+use Rattle.theory.specs.Edf.{rem, left, next}
 use Rattle.theory.specs.Necessity.{Fed, fed-gone, fed-step}
-use Rattle.model.specs.Entries.{freeEntry, isHeld, isPiece}
+use Rattle.model.specs.Entries.{isHeld}
 use Rattle.model.specs.declared.Entry.{Entry}
 use Rattle.rules.specs.Share.{load, slotsFor, jobCount, stepB, stepC}
 use Rattle.rules.specs.Slots.{Slot, jobLength, jobNeed, stepD}
 use Rattle.rules.specs.Ahead.{stepF, fitsAhead}
 use Rattle.rules.specs.WellFormed.{Held}
 use Rattle.laws.specs.Held.{Fraction, Piece, held-kinds, held-is, piece-of, piece-other, not-fraction}
-use Rattle.laws.specs.Settled.{after, Granted, aged, FractionFate, ended, ages, fraction-fate, Stays, settled-held}
+use Rattle.laws.specs.Settled.{Granted, FractionFate, ended, ages, fraction-fate, Stays, settled-held}
 use Rattle.laws.specs.Sources.{sourceOf, free-source, fraction-source, source-next, held-sound}
 use Rattle.laws.specs.Turns.{stepBOf}
 use Rattle.laws.specs.Extras.{stepCOf}
-use Rattle.ahead.specs.Moved.{Together, stepOf, moved, Extras, own-extras, moved-together, moved-life}
+use Rattle.ahead.specs.Moved.{Together, stepOf, moved, own-extras, moved-together, moved-life}
 use Rattle.ahead.specs.Fits.{Fits, pieceOf, loads-now, fits-meets, fits-on}
 use Rattle.ahead.specs.Exact.{lives-most, ahead-fits, fits-ahead}
 use Rattle.service.specs.Choice.{wins}
@@ -125,7 +125,9 @@ module _ (B : ℕ) (es : List Entry) (b : 1 ≤ B) (w : Together B es) (f : Fits
               omega arith
 
           step : sourceOf (fate e) ≡ next (sourceOf e) (stepBOf B es e)
-          step = source-next B (stepBOf B es e) (stepCOf B es e) e h ∙ ap (λ v. next (sourceOf e) (cond v (stepBOf B es e) 0)) (piece-of e (p .kind))
+          step =
+              source-next B (stepBOf B es e) (stepCOf B es e) e h
+              ∙ ap (λ v. next (sourceOf e) (cond v (stepBOf B es e) 0)) (piece-of e (p .kind))
 
           rest : Fed (sourceOf (fate e)) (λ t. slotsTo B plans e (suc t))
           rest = go (settled-held B (stepBOf B es e) (stepCOf B es e) e h x)
@@ -138,7 +140,8 @@ module _ (B : ℕ) (es : List Entry) (b : 1 ≤ B) (w : Together B es) (f : Fits
                   there (inl k) = rw (fraction-source (fate e) (k .kind)) (fed-gone _)
                   there (inr k) =
                       subst (λ s. Fed (sourceOf (fate e)) (λ t. assigned plans s (suc t) 0 B)) (z .0)
-                      (subst (Fed (sourceOf (fate e))) (fun-ext (λ t. sym (plans-later B es (fate e .stream) t 0 B))) (r (held-is (z .1)) .piece (piece-other k)))
+                      (subst (Fed (sourceOf (fate e))) (fun-ext (λ t. sym (plans-later B es (fate e .stream) t 0 B)))
+                      (r (held-is (z .1)) .piece (piece-other k)))
 
 -- The intervals of n lives: the interval at hand, and the plans after it for what becomes of the entries.
 fair-plans : (n B : ℕ) (es : List Entry) → 1 ≤ B → Together B es → Fits B es → All (λ e. e .«life_left» .0 ≤ n) es

@@ -2,7 +2,7 @@
 -- B is the number of slots of an interval. docs/GUARANTEE.md reads it line by line. Assumes nothing.
 use mathlib.Core.Path.{_≡_}
 use mathlib.Core.Logic.{_⊎_, _↔_, _≢_}
-use mathlib.Core.Bool.{Bool, true, not, _&&_}
+use mathlib.Core.Bool.{true, not, _&&_}
 use mathlib.Core.List.{List, [], _∷_, _++_}
 use Prim.Native.Nat.{ℕ, suc, _+_, _*_, _-_, _/_, _≤_, _<_}
 use lib.Dec.{ltb, leb, eqb}
@@ -44,8 +44,8 @@ pub record Kept (B : ℕ) (h : Admission) : Type 0 where
   -- kind 2: period i is as many intervals as the period field says, straight after the one before
   pub wholes :
       h .request .kind ≡ 2 → (i : ℕ) → suc i * h .request .period ≤ length (h .plans)
-      → let n = had B h (i * h .request .period) (suc i * h .request .period) in
-      (h .request .min ≤ n) × (n ≤ h .request .max)
+      → let slots = had B h (i * h .request .period) (suc i * h .request .period) in
+      (h .request .min ≤ slots) × (slots ≤ h .request .max)
   -- kind 3: one period up to the deadline, exactly its amount
   pub transfer : h .request .kind ≡ 3 → h .request .period ≤ length (h .plans) → had B h 0 (h .request .period) ≡ h .request .min
 

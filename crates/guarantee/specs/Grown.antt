@@ -17,7 +17,6 @@ use Rattle.model.specs.Entries.{freeEntry, isHeld}
 use Rattle.model.specs.Answers.{requestOf}
 use Rattle.model.specs.declared.Entry.{Entry}
 use Rattle.rules.specs.Slots.{Run}
-use Rattle.rules.specs.Share.{headroom}
 use Rattle.rules.specs.Ahead.{passed, renewed}
 use Rattle.rules.specs.WellFormed.{Held}
 use Rattle.laws.specs.Held.{Fraction, Piece, held-kinds, held-is, piece-of, not-fraction, piece-other}

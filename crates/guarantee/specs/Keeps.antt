@@ -9,8 +9,8 @@ use lib.Dec.{ltb, eqb, eqb·suc-zero}
 use lib.ListN.{length, drop}
 use Rattle.lists.specs.Lists.{keep}
 use Rattle.lists.specs.Tests.{clash}
-use Rattle.lists.specs.All.{All, stop, and, all-map, all-keep, all-append, all-of-map, all-both}
-use Rattle.lists.specs.Picked.{Paired, done, pair, paired-with, paired-left, paired-keep}
+use Rattle.lists.specs.All.{All, and, all-keep, all-append, all-of-map, all-both}
+use Rattle.lists.specs.Picked.{Paired, pair, paired-with, paired-left, paired-keep}
 use Rattle.model.specs.Requests.{refusal}
 use Rattle.model.specs.Entries.{freeEntry, isHeld, isStream, entryOf}
 use Rattle.model.specs.declared.Entry.{Entry}
@@ -26,11 +26,11 @@ use Rattle.laws.specs.Held.{held-is}
 use Rattle.laws.specs.Offers.{checks-passed, isFull, answer-passed}
 use Rattle.laws.specs.Turns.{stepBOf}
 use Rattle.laws.specs.Extras.{stepCOf}
-use Rattle.ahead.specs.Moved.{stepOf, moved}
+use Rattle.ahead.specs.Moved.{stepOf}
 use Rattle.ahead.specs.Tables.{formed-together, keep-free}
 use Rattle.ahead.specs.Formed.{passed-picked, offered-formed, withdrawn-formed, beacon-formed, advanced-held}
-use Rattle.guarantee.specs.History.{Call, Offer, Withdraw, Beacon, Seen, Offered, Withdrew, Planned, recordsOf, seen, after}
-use Rattle.guarantee.specs.Ledger.{Admission, Ledger, begins, grown, lasts, isOf, note}
+use Rattle.guarantee.specs.History.{Call, Offer, Withdraw, Beacon, Offered, Withdrew, Planned, recordsOf, seen, after}
+use Rattle.guarantee.specs.Ledger.{Admission, Ledger, grown, lasts, isOf, note}
 use Rattle.guarantee.specs.Demand.{Kept}
 use Rattle.guarantee.specs.Link.{Linked, holds as fields, begins-linked, period-some, begins-kept}
 use Rattle.guarantee.specs.Grown.{Gets, grown-lasts, grown-kept, grown-linked}
@@ -117,7 +117,9 @@ module _ (l : Ledger) (t : Table) (v : Stands l t) where
   plan = planOf t
 
   -- each admission with its entry, and what the interval gives it
-  all-paired : Paired (λ h e. Linked B h e × Kept B h × (Held B e × Gets B (stepBOf B (heldOf t) e) (stepCOf B (heldOf t) e) plan e)) (l .held) (heldOf t)
+  all-paired :
+      Paired (λ h e. Linked B h e × Kept B h × (Held B e × Gets B (stepBOf B (heldOf t) e) (stepCOf B (heldOf t) e) plan e))
+      (l .held) (heldOf t)
   all-paired = paired-with (v .paired) (v .kept) (all-both (formed-together (v .formed) .held) (plan-gets t (v .formed)))
 
   grown-all : All (λ h. Kept B (grown plan h)) (l .held)
@@ -144,7 +146,8 @@ module _ (l : Ledger) (t : Table) (v : Stands l t) where
           Stands (note l (Planned (length ws) (r .answer) (recordsOf (r .count) (r .words)))) (r .table))
       go true f = v
       go false f =
-          subst (λ rs. Stands (note l (Planned (length ws) 0 rs)) (advanced t)) (sym (records-back plan (drop (recordWords * length plan) ws)))
+          subst (λ rs. Stands (note l (Planned (length ws) 0 rs)) (advanced t))
+          (sym (records-back plan (drop (recordWords * length plan) ws)))
           (planned-stands (length ws) f)
 
   pub call-stands : (c : Call) → Stands (note l (seen t c)) (after t c)

@@ -1,21 +1,20 @@
 -- One admission and its entry of the table: the entry holds the request, its life and its intervals left are told by the number of
 -- plans, and what it was given is what the plans gave it in the period that runs. So it is when a request is accepted, and then no
 -- period is completed. B is the number of slots of an interval. Assumes nothing.
-use mathlib.Core.Path.{_≡_, refl, sym, ap}
-use mathlib.Core.Logic.{inl, inr, _≢_}
+use mathlib.Core.Path.{_≡_, sym, ap}
+use mathlib.Core.Logic.{_≢_}
 use Prim.Native.Nat.{ℕ, suc, _+_, _*_, _≤_, _<_, zero-le}
 use native.Mathlib.Nat.{lt-of-mul-lt-mul-right}
 use native.Mathlib.Omega.{arith}
 use lib.ListN.{length}
-use borrow.Author.Tests.{eqb-false, eq-eqb, ne-eqb}
+use borrow.Author.Tests.{eq-eqb, ne-eqb}
 use Rattle.model.specs.Answers.{fieldsAnswer}
 use Rattle.model.specs.Entries.{entryOf}
 use Rattle.model.specs.Answers.{requestOf}
 use Rattle.model.specs.declared.Entry.{Entry}
 use Rattle.model.specs.declared.Request.{Request}
-use Rattle.rules.specs.WellFormed.{Held}
 use Rattle.laws.specs.Fields.{Fields, fraction, whole, transfer, fields-of}
-use Rattle.laws.specs.Held.{Piece, held-kinds, not-fraction, request-back}
+use Rattle.laws.specs.Held.{Piece, request-back}
 use Rattle.guarantee.specs.Ledger.{Admission, begins}
 use Rattle.guarantee.specs.Demand.{had, Kept}
 use Rattle.guarantee.specs.Had.{had-none}

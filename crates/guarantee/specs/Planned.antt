@@ -1,14 +1,12 @@
 -- What the plan of a well-formed table gives: the records give a stream, slot by slot, what step D gives it, and no slot twice; so every
 -- held entry gets of the plan what steps B and C hand out. Assumes nothing.
 use mathlib.Core.Path.{_≡_, refl, sym, ap, _∙_}
-use mathlib.Core.Logic.{_≢_}
 use mathlib.Core.Bool.{true, cond, _&&_}
 use mathlib.Core.List.{List, [], _∷_, _++_}
-use mathlib.Core.Option.{none}
 use Prim.Native.Nat.{ℕ, suc, _+_, _*_, _≤_, _<_}
 use native.Mathlib.Nat.{zero-mul, one-mul}
 use native.Mathlib.Omega.{arith}
-use lib.ListN.{length, getD}
+use lib.ListN.{length}
 use borrow.Author.Tests.{eq-eqb}
 use Rattle.lists.specs.Lists.{one-if, span}
 use Rattle.lists.specs.Tests.{and-true}
@@ -54,7 +52,8 @@ module _ (B : ℕ) (es : List Entry) where
       omega (
         arith,
         runs-once (λ k. true) x (stepD B es),
-        sum-same (λ (r : Run). one-if (gives r x)) (λ (r : Run). one-if (gives r x && true)) (stepE B es) (λ r. ap one-if (sym (and-true (gives r x)))),
+        sum-same (λ (r : Run). one-if (gives r x)) (λ (r : Run). one-if (gives r x && true)) (stepE B es)
+            (λ r. ap one-if (sym (and-true (gives r x)))),
       )
 
 -- ---- what each held entry gets

@@ -1,34 +1,31 @@
 -- Demand 3, proved. Along the list what stands between two calls is kept (Keeps); what is claimed of a call that follows is then what
 -- holds of a call on a well-formed table whose held entries are matched with the admissions. Assumes nothing.
 use mathlib.Core.Path.{_≡_, refl, sym, ap, ap₂, subst, _∙_}
-use mathlib.Core.Logic.{_⊎_, inl, inr, ⊎-elim, _≢_}
+use mathlib.Core.Logic.{_⊎_, inl, inr, ⊎-elim}
 use mathlib.Core.Bool.{Bool, true, false, cond, not}
 use mathlib.Core.List.{List, [], _∷_, _++_, map}
-use Prim.Native.Nat.{ℕ, zero, suc, _*_, _≤_, zero-le}
-use native.Mathlib.Omega.{arith}
+use Prim.Native.Nat.{ℕ, _*_, _≤_, zero-le}
 use lib.Dec.{ltb, leb, eqb}
 use lib.ListN.{length, drop}
 use Rattle.lists.specs.Lists.{within, anyOf}
-use Rattle.lists.specs.Tests.{either}
-use Rattle.lists.specs.All.{All, stop, and, head, tail, all-append, any-none, none-any}
+use Rattle.lists.specs.All.{All, stop, and, head, tail, all-append}
 use Rattle.lists.specs.Picked.{done, paired-length, paired-with, paired-left, paired-right, paired-any}
 use Rattle.model.specs.Requests.{check, refusal}
 use Rattle.model.specs.Entries.{freeEntry, entryOf, isStream}
 use Rattle.model.specs.declared.Entry.{Entry}
 use Rattle.model.specs.declared.Request.{Request}
 use Rattle.model.specs.declared.Table.{Table}
-use Rattle.exact.specs.Assignment.{Assignment, ServesEntry}
+use Rattle.exact.specs.Assignment.{Assignment}
 use Rattle.rules.specs.Calls.{places, recordWords, mostRecords, opened, heldOf, holds, offerAnswer, placed, offered, heldAnswer, withdrawn}
 use Rattle.rules.specs.Calls.{planOf, advanced, refusedBeacon, plannedBeacon, beacon}
-use Rattle.laws.specs.Offers.{offerChecksBut, checks-passed, isFull, fits, offer-refused, offer-passed, answer-passed}
-use Rattle.laws.specs.Held.{entry-held}
+use Rattle.laws.specs.Offers.{offerChecksBut, isFull, fits, offer-refused, offer-passed, answer-passed}
 use Rattle.ahead.specs.Tables.{formed-together}
 use Rattle.ahead.specs.Formed.{opened-formed, passed-held}
 use Rattle.exact.specs.Offer.{offer-served, offer-hopeless}
-use Rattle.guarantee.specs.History.{Call, Offer, Withdraw, Beacon, Seen, recordsOf, seen, after, history, answerSeen, planSeen, lastSeen}
-use Rattle.guarantee.specs.Ledger.{Admission, Ledger, begins, isOf, note, noteAll, noAdmission}
-use Rattle.guarantee.specs.Demand.{timesGiven, Kept, Serves, offerChecks, Right, ledgerAfter, answerTo, ServesAll, Demand3, Claim}
-use Rattle.guarantee.specs.Link.{Linked, holds as fields, begins-linked}
+use Rattle.guarantee.specs.History.{Call, Offer, Withdraw, Beacon, recordsOf, seen, after, history, answerSeen, planSeen, lastSeen}
+use Rattle.guarantee.specs.Ledger.{Ledger, begins, isOf, note, noteAll, noAdmission}
+use Rattle.guarantee.specs.Demand.{timesGiven, Kept, Serves, offerChecks, Right, ledgerAfter, answerTo, ServesAll, Claim}
+use Rattle.guarantee.specs.Link.{holds as fields, begins-linked}
 use Rattle.guarantee.specs.Serving.{serves-entry, entry-serves}
 use Rattle.guarantee.specs.Planned.{records-back, plan-once}
 use Rattle.guarantee.specs.Keeps.{Stands, call-stands}
@@ -44,14 +41,15 @@ interval-kept : (t : Table) (c : Call) → after t c .interval .0 ≡ t .interva
 unfolding after offered withdrawn beacon advanced
 interval-kept t (Offer q) = same (eqb (offerAnswer t q) 0)
   where
-    same : (b : Bool) → cond b (record { interval = t .interval; entries = placed (entryOf q) (t .entries) }) t .interval .0 ≡ t .interval .0
+    same : (b : Bool)
+        → cond b (record { interval = t .interval; entries = placed (entryOf q) (t .entries) }) t .interval .0 ≡ t .interval .0
     same true = refl
     same false = refl
 interval-kept t (Withdraw s) = same (holds t s)
   where
     same : (b : Bool)
-        → cond b (record { interval = t .interval; entries = map (λ (e : Entry). cond (isStream s e) freeEntry e) (t .entries) }) t .interval .0
-        ≡ t .interval .0
+        → cond b (record { interval = t .interval; entries = map (λ (e : Entry). cond (isStream s e) freeEntry e) (t .entries) }) t
+        .interval .0 ≡ t .interval .0
     same true = refl
     same false = refl
 interval-kept t (Beacon ws) = same (ltb (length ws) (recordWords * mostRecords))
@@ -107,7 +105,8 @@ module _ (l : Ledger) (t : Table) (v : Stands l t) where
   unfolding offerChecks
   checks-same q = ap₂ (λ a n. offerChecksBut a (leb places n) B q) (held-same (q .stream)) (paired-length (v .paired))
 
-  zero-or : (q : Request) → refusal (offerChecksBut (holds t (q .stream)) (isFull t q) B q) ≡ 0 → (offerAnswer t q ≡ 0) ⊎ (offerAnswer t q ≡ 17)
+  zero-or : (q : Request) → refusal (offerChecksBut (holds t (q .stream)) (isFull t q) B q) ≡ 0
+      → (offerAnswer t q ≡ 0) ⊎ (offerAnswer t q ≡ 17)
   zero-or q h = go (fits t q) (offer-passed t q h)
     where
       go : (b : Bool) → offerAnswer t q ≡ cond (not b) 17 0 → (offerAnswer t q ≡ 0) ⊎ (offerAnswer t q ≡ 17)

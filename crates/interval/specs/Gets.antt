@@ -2,23 +2,23 @@
 -- slots for a piece. Assumes nothing.
 use mathlib.Core.Path.{_≡_, refl, sym, ap, _∙_}
 use mathlib.Core.Logic.{_⊎_, inl, inr}
-use mathlib.Core.Bool.{Bool, true, false, cond}
+use mathlib.Core.Bool.{Bool, false, cond}
 use mathlib.Core.List.{List}
 use mathlib.Core.Option.{none}
-use Prim.Native.Nat.{ℕ, suc, _+_, _*_, _/_, _≤_, _<_, zero-le}
-use native.Mathlib.Nat.{le-refl, one-mul, zero-mul, mul-comm, mul-le-mul-right}
+use Prim.Native.Nat.{ℕ, suc, _*_, _≤_, _<_, zero-le}
+use native.Mathlib.Nat.{le-refl, mul-comm, mul-le-mul-right}
 use native.Mathlib.Decide.{decLe}
 use native.Mathlib.Omega.{arith}
 use lib.Dec.{eqb}
 use lib.ListN.{getD}
 use borrow.Author.Tests.{eq-eqb}
-use Rattle.lists.specs.Lists.{one-if, sumOf, span}
+use Rattle.lists.specs.Lists.{sumOf, span}
 use Rattle.lists.specs.Tests.{eqb-refl}
-use Rattle.lists.specs.All.{All, all-map, all-zip, all-both, all-of}
+use Rattle.lists.specs.All.{All, all-map, all-zip, all-both}
 use Rattle.lists.specs.Sums.{sum-ext, sum-zero}
-use Rattle.lists.specs.Picked.{Picked, each-picked, picked-only, picked-alone}
+use Rattle.lists.specs.Picked.{each-picked, picked-only, picked-alone}
 use Rattle.theory.specs.Time.{span-ext, span-sum}
-use Rattle.model.specs.Entries.{isStream, isKind}
+use Rattle.model.specs.Entries.{isStream}
 use Rattle.model.specs.declared.Entry.{Entry}
 use Rattle.rules.specs.Share.{load, jobCount, stepB, stepC}
 use Rattle.rules.specs.Slots.{Job, JobName, nameOf, jobAt, jobLength, jobNeed, jobsOf, jobs, stepD}
@@ -40,7 +40,8 @@ streamAt B es s x = wins (ofStream s) (getD (stepD B es) x none)
 only-stream : (es : List Entry) → Once es
     → All (λ e. (f : Entry → ℕ) → ((y : Entry) → isStream (e .stream) y ≡ false → f y ≡ 0) → sumOf f es ≡ f e) es
 only-stream es w =
-    all-map (λ e p f h. picked-only f (p .1) (all-map (λ y q. h y q) (picked-alone (isStream (e .stream)) (p .1) (w (e .stream)) (eq-eqb (e .stream) (e .stream) refl))))
+    all-map (λ e p f h. picked-only f (p .1)
+    (all-map (λ y q. h y q) (picked-alone (isStream (e .stream)) (p .1) (w (e .stream)) (eqb-refl (e .stream)))))
     (each-picked es)
 
 module _ (B : ℕ) (es : List Entry) (b : 1 ≤ B) (w : Together B es) (l : load es ≤ B) where

@@ -3,15 +3,15 @@
 use mathlib.Core.Path.{_≡_, refl, sym, ap, ap₂, _∙_}
 use mathlib.Core.Logic.{_⊎_, inl, inr, ⊎-elim}
 use mathlib.Core.Bool.{Bool, true, false, cond, not, _&&_}
-use mathlib.Core.List.{List, [], _∷_, _++_}
-use Prim.Native.Nat.{ℕ, zero, suc, _+_, _*_, _-_, _/_, _≤_, _<_, zero-le}
+use mathlib.Core.List.{List}
+use Prim.Native.Nat.{ℕ, zero, suc, _+_, _*_, _-_, _≤_, _<_, zero-le}
 use native.Mathlib.Nat.{le-refl, le-of-eq, suc-mul, zero-mul, zero-add, mul-comm, mul-le-mul-right}
 use native.Mathlib.Decide.{ℕ-discrete}
 use native.Mathlib.Omega.{arith}
 use lib.Dec.{eqb}
 use borrow.Author.Tests.{eq-eqb, ne-eqb}
-use Rattle.lists.specs.Lists.{one-if, keep, sumOf, sort, concatMap}
-use Rattle.lists.specs.Tests.{one-if-true, one-if-false, one-if-most}
+use Rattle.lists.specs.Lists.{one-if, keep, sumOf, sort}
+use Rattle.lists.specs.Tests.{one-if-false, one-if-most}
 use Rattle.lists.specs.All.{All, stop, and, head, tail, all-map, all-zip, all-both, all-of}
 use Rattle.lists.specs.All.{all-keep, all-kept, all-sort, all-sorted, all-append, all-left, all-right, all-concat, all-unconcat}
 use Rattle.lists.specs.Sums.{sum-ext, sum-le, sum-add, sum-keep, sum-sort, sum-append, sum-concat, sum-zero}
@@ -20,7 +20,7 @@ use Rattle.theory.specs.Edf.{Source, source, later, dem}
 use Rattle.theory.specs.Periodic.{periodic-room}
 use Rattle.model.specs.Entries.{isStream, isKind, isPiece}
 use Rattle.model.specs.declared.Entry.{Entry}
-use Rattle.rules.specs.Share.{Grant, load, order, jobCount, stepB, stepC}
+use Rattle.rules.specs.Share.{load, order, jobCount, stepB, stepC}
 use Rattle.rules.specs.Slots.{Job, JobName, nameOf, jobAt, jobsFrom, jobLength, jobNeed, jobsOf, lower, tieOrder, jobs, sameName}
 use Rattle.rules.specs.WellFormed.{Held}
 use Rattle.laws.specs.Held.{Fraction, Piece, held-kinds, piece-of, not-fraction, fraction-not}

@@ -1,11 +1,11 @@
 -- The plan of a well-formed table: its records are exactly the longest runs of step D's slots, in rising order; there are at most
 -- 1,024 of them; and each number in them is a stream's, a job's, or within the interval, so below 2^32. Assumes nothing.
-use mathlib.Core.Path.{_≡_, refl, ap}
+use mathlib.Core.Path.{_≡_, ap}
 use mathlib.Core.Logic.{_⊎_, inl, inr}
 use mathlib.Core.Bool.{true}
 use mathlib.Core.List.{List, map, List·Memᴰ}
 use Prim.Native.Nat.{ℕ, zero, suc, _+_, _*_, _≤_, _<_, zero-le}
-use native.Mathlib.Nat.{zero-mul, mul-le-mul-right}
+use native.Mathlib.Nat.{mul-le-mul-right}
 use native.Mathlib.Omega.{arith}
 use lib.Dec.{ltb}
 use lib.ListN.{length}
@@ -13,23 +13,23 @@ use borrow.Author.Tests.{eq-eqb, le-ltb}
 use Rattle.lists.specs.Lists.{sumOf}
 use Rattle.lists.specs.Tests.{within-both, one-if-most, one-if-false}
 use Rattle.lists.specs.All.{All, all-map, all-zip}
-use Rattle.lists.specs.Sums.{sum-le, sum-most, length-keep}
+use Rattle.lists.specs.Sums.{sum-most, length-keep}
 use Rattle.model.specs.Entries.{isHeld}
 use Rattle.model.specs.declared.Entry.{Entry}
 use Rattle.model.specs.declared.Table.{Table}
 use Rattle.rules.specs.Share.{jobCount, stepB, stepC}
-use Rattle.rules.specs.Slots.{Job, JobName, Run, nameOf, jobAt, jobsFrom, jobLength, jobNeed, jobsOf, jobs, stepD, stepE}
-use Rattle.rules.specs.Calls.{places, mostRecords, heldOf, planOf}
+use Rattle.rules.specs.Slots.{JobName, Run, nameOf, jobsFrom, jobLength, jobNeed, jobsOf, jobs, stepD, stepE}
+use Rattle.rules.specs.Calls.{mostRecords, heldOf, planOf}
 use Rattle.rules.specs.Reading.{rises}
-use Rattle.rules.specs.WellFormed.{Held, WellFormed}
+use Rattle.rules.specs.WellFormed.{WellFormed}
 use Rattle.laws.specs.Held.{Fraction, Piece, held-kinds, not-fraction}
 use Rattle.ahead.specs.Moved.{Together}
 use Rattle.ahead.specs.Tables.{formed-together}
 use Rattle.service.specs.Meets.{slots-length, slots-owned}
 use Rattle.service.specs.Cuts.{nameIn}
 use Rattle.service.specs.Runs.{IsRun, runs-are, all-runs, runs-rise, runs-end, runs-named}
-use Rattle.service.specs.Count.{toCome, ahead, few-runs}
-use Rattle.interval.specs.Jobs.{from-all, jobs-sum, jobs-all, jobs-keys}
+use Rattle.service.specs.Count.{toCome, few-runs}
+use Rattle.interval.specs.Jobs.{jobs-sum, jobs-all, jobs-keys}
 
 -- ---- few records
 -- a job counts twice at most
@@ -73,7 +73,8 @@ module _ {B : ℕ} {es : List Entry} (w : Together B es) where
   -- ---- the names in the records
   jobs-named : All (λ j. Named (nameOf j)) (jobs B es)
   jobs-named =
-      jobs-all w (all-zip (λ e h m k q. (let s = within-both 1 65535 (e .stream) (h .name) in (s .0, s .1, omega arith))) (w .held) few-jobs)
+      jobs-all w
+      (all-zip (λ e h m k q. (let s = within-both 1 65535 (e .stream) (h .name) in (s .0, s .1, omega arith))) (w .held) few-jobs)
 
   plan-named : All (λ r. Named (nameIn r)) (stepE B es)
   unfolding stepE stepD

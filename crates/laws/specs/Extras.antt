@@ -16,7 +16,7 @@ use Rattle.lists.specs.Sums.{sum-ext, sum-same, sum-add, sum-zero, sum-tight}
 use Rattle.theory.specs.Share.{shares-fit}
 use Rattle.model.specs.Entries.{isKind, isPiece}
 use Rattle.model.specs.declared.Entry.{Entry}
-use Rattle.rules.specs.Share.{load, slotsFor, capacity, stepB, remains, headroom, jobCount, weight, extra, stepC}
+use Rattle.rules.specs.Share.{load, slotsFor, stepB, remains, headroom, jobCount, weight, extra, stepC}
 use Rattle.rules.specs.Slots.{jobNeed}
 use Rattle.rules.specs.WellFormed.{Once}
 use Rattle.laws.specs.Grants.{slots-map}

@@ -111,7 +111,8 @@ checks-passed held full B q h =
     record {
       name = not-false (streamInRange (q .stream)) (head n);
       free = head (tail n);
-      fields = ap refusal (sym (append-nil (fieldChecks B q))) ∙ none-refusal (all-left quiet (fieldChecks B q) (check 16 full ∷ []) rest) [];
+      fields = ap refusal (sym (append-nil (fieldChecks B q)))
+          ∙ none-refusal (all-left quiet (fieldChecks B q) (check 16 full ∷ []) rest) [];
       place = head (all-right quiet (fieldChecks B q) (check 16 full ∷ []) rest);
     }
 
@@ -141,7 +142,9 @@ module _ (t : Table) (q : Request) where
   unfolding refusal
   offer-passed h =
       answer-checks
-      ∙ none-refusal (refusal-none (offerChecksBut (holds t (q .stream)) isFull B q) (checks-numbered (holds t (q .stream)) isFull B q) h) (check 17 (not fits) ∷ [])
+      ∙ none-refusal
+      (refusal-none (offerChecksBut (holds t (q .stream)) isFull B q) (checks-numbered (holds t (q .stream)) isFull B q) h)
+      (check 17 (not fits) ∷ [])
 
   -- 0 where looking ahead says yes, and 17 where it says no
   pub answer-fits : refusal (offerChecksBut (holds t (q .stream)) isFull B q) ≡ 0 → offerAnswer t q ≡ 0 → fits ≡ true

@@ -4,14 +4,14 @@ use mathlib.Core.Path.{_≡_, ap, ap₂}
 use mathlib.Core.Logic.{_⊎_, inl, inr, ⊎-elim, _≢_}
 use mathlib.Core.Bool.{Bool, true, false, _&&_, _||_}
 use mathlib.Core.List.{List, [], _∷_}
-use Prim.Native.Nat.{ℕ, _≤_, _<_}
+use Prim.Native.Nat.{_≤_, _<_}
 use native.Mathlib.Decide.{ℕ-discrete, decLe}
 use native.Mathlib.Omega.{arith}
 use lib.Dec.{ltb, eqb}
 use borrow.Author.Tests.{eqb-true, eqb-false, eq-eqb, ltb-true, lt-ltb}
-use Rattle.lists.specs.Lists.{keep, sort}
+use Rattle.lists.specs.Lists.{keep}
 use Rattle.lists.specs.Tests.{either, clash, and-both, both-and, or-true, or-right}
-use Rattle.lists.specs.All.{All, all-map}
+use Rattle.lists.specs.All.{all-map}
 use Rattle.lists.specs.Sorted.{Sorted, Apart, alone, apart, sort-sorted}
 use Rattle.model.specs.Entries.{isPiece}
 use Rattle.model.specs.declared.Entry.{Entry}

@@ -2,9 +2,9 @@
 -- entries, since a free place adds nothing. Assumes nothing.
 use mathlib.Core.Path.{_≡_, refl, sym, ap, _∙_}
 use mathlib.Core.Logic.{_⊎_, inl, inr}
-use mathlib.Core.Bool.{Bool, true, false, cond}
-use mathlib.Core.List.{List, [], _∷_}
-use Prim.Native.Nat.{ℕ, _*_, _-_, _≤_, min}
+use mathlib.Core.Bool.{true, cond}
+use mathlib.Core.List.{List}
+use Prim.Native.Nat.{ℕ, _*_, _-_, min}
 use native.Mathlib.Omega.{arith}
 use lib.ListN.{length}
 use Rattle.lists.specs.Lists.{within, keep, sumOf}
@@ -14,7 +14,7 @@ use Rattle.lists.specs.Sums.{sum-ext, sum-keep}
 use Rattle.model.specs.Entries.{freeEntry, isHeld, isPiece}
 use Rattle.model.specs.declared.Entry.{Entry}
 use Rattle.model.specs.declared.Table.{Table}
-use Rattle.rules.specs.Share.{load, slotsFor, capacity, sooner, stepB, remains, headroom, jobCount, weight, extra}
+use Rattle.rules.specs.Share.{load, capacity, remains}
 use Rattle.rules.specs.Calls.{places, heldOf}
 use Rattle.rules.specs.WellFormed.{Held, Once, WellFormed}
 use Rattle.laws.specs.Held.{held-is}
@@ -67,4 +67,9 @@ module _ (t : Table) (w : Tidy t) where
   -- L: what all pieces are owed, taken off the capacity
   pub remains-places : remains B es ≡ capacity B es - sumOf (λ (e : Entry). cond (isPiece e) (e .owed .0) 0) (t .entries)
   remains-places =
-      omega (arith, remains-rest B es (w .once), stepB-total B es (w .once), held-sum (λ (e : Entry). cond (isPiece e) (e .owed .0) 0) refl (w .entries))
+      omega (
+        arith,
+        remains-rest B es (w .once),
+        stepB-total B es (w .once),
+        held-sum (λ (e : Entry). cond (isPiece e) (e .owed .0) 0) refl (w .entries),
+      )

@@ -1,10 +1,10 @@
 -- Step B: kinds 2 and 3 in their order take what they are owed. It is a greedy service by earliest deadline; in all it gives the smaller
 -- of the capacity and what is owed; and what one takes has a closed form, which needs no order: the smaller of what it is owed and
 -- what those before it leave. Assumes nothing.
-use mathlib.Core.Path.{_≡_, refl, sym, ap, subst, _∙_}
-use mathlib.Core.Bool.{Bool, true, false, cond}
+use mathlib.Core.Path.{_≡_, sym, ap, subst, _∙_}
+use mathlib.Core.Bool.{true, false, cond}
 use mathlib.Core.List.{List, [], _∷_}
-use Prim.Native.Nat.{ℕ, _+_, _-_, _≤_, min}
+use Prim.Native.Nat.{ℕ, _-_, _≤_, min}
 use native.Mathlib.Omega.{arith}
 use lib.Dec.{eqb}
 use Rattle.lists.specs.Lists.{keep, sumOf}
@@ -12,7 +12,7 @@ use Rattle.lists.specs.All.{All, stop, and, head, tail, all-map, all-zip, all-k
 use Rattle.lists.specs.Sums.{sum-zero, sum-keep, sum-sort}
 use Rattle.lists.specs.Sorted.{Sorted, none, first}
 use Rattle.theory.specs.Time.{due}
-use Rattle.theory.specs.Edf.{Source, source, rem, left, Greedy, greedy-total}
+use Rattle.theory.specs.Edf.{Source, source, left, Greedy, greedy-total}
 use Rattle.theory.specs.Greedy.{Rising, flat, rise, Takes, none as nobody, take, order-greedy}
 use Rattle.model.specs.Entries.{isPiece}
 use Rattle.model.specs.declared.Entry.{Entry}

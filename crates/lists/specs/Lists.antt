@@ -2,7 +2,7 @@
 use Prim.Native.Nat.{ℕ, zero, suc, _+_, max}
 use mathlib.Core.Bool.{Bool, true, false, cond, _&&_, _||_}
 use mathlib.Core.List.{List, [], _∷_, _++_}
-use lib.Dec.{leb}
+use lib.Dec.{leb, eqb}
 
 -- a ≤ x ≤ b
 abbrev pub within : ℕ → ℕ → ℕ → Bool
@@ -18,6 +18,13 @@ span c zero zero = 0
 span c zero (suc d) = c 0 + span (λ u. c (suc u)) 0 d
 span c (suc s) zero = 0
 span c (suc s) (suc d) = span (λ u. c (suc u)) s d
+
+-- two lists of numbers are the same
+abbrev pub sameList : List ℕ → List ℕ → Bool
+sameList [] [] = true
+sameList [] (y ∷ ys) = false
+sameList (x ∷ xs) [] = false
+sameList (x ∷ xs) (y ∷ ys) = eqb x y && sameList xs ys
 
 module _ {A : Type 0} where
   abbrev pub cons-if : Bool → A → List A → List A

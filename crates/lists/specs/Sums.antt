@@ -2,13 +2,13 @@
 use mathlib.Core.Path.{_≡_, refl, ap, ap₂, sym, _∙_}
 use mathlib.Core.Bool.{Bool, true, false, cond}
 use mathlib.Core.List.{List, [], _∷_, _++_, map}
-use Prim.Native.Nat.{ℕ, suc, _+_, _*_, _≤_, _<_, zero-le}
+use Prim.Native.Nat.{ℕ, suc, _+_, _*_, _≤_, zero-le}
 use native.Mathlib.Nat.{mul-zero, mul-add, suc-mul}
 use native.Mathlib.Omega.{arith}
 use lib.ListN.{length}
-use Rattle.lists.specs.Lists.{cons-if, one-if, keep, sumOf, anyOf, insert, sort, concatMap}
+use Rattle.lists.specs.Lists.{cons-if, one-if, keep, sumOf, insert, sort, concatMap}
 use Rattle.lists.specs.Tests.{cond-le}
-use Rattle.lists.specs.All.{All, stop, and, head, tail, all-map, all-of}
+use Rattle.lists.specs.All.{All, stop, and, all-map, all-of}
 
 module _ {A : Type 0} where
   pub sum-ext : (f g : A → ℕ) {xs : List A} → All (λ x. f x ≡ g x) xs → sumOf f xs ≡ sumOf g xs

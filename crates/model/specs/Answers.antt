@@ -1,4 +1,5 @@
--- What the code of this crate answers, in the document's numbers; and the fields that an entry was offered with. Document 01, "Where each refusal is checked". Assumes nothing.
+-- What the code of this crate answers, in the document's numbers; and the fields that an entry was offered with. Document 01, "Where
+-- each refusal is checked". Assumes nothing.
 use Prim.Native.Nat.{ℕ}
 use mathlib.Core.Bool.{cond}
 use Rattle.model.specs.Requests.{refusal, fieldChecks}

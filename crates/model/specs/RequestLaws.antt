@@ -1,6 +1,6 @@
 -- The checks of an offer's fields, kind by kind. Assumes nothing.
 use Prim.Native.Nat.{ℕ}
-use mathlib.Core.Path.{_≡_, refl}
+use mathlib.Core.Path.{_≡_}
 use mathlib.Core.Logic.{_≢_}
 use borrow.Author.Tests.{eq-eqb, ne-eqb}
 use Rattle.model.specs.Requests.{refusal, fractionChecks, wholeChecks, transferChecks, fieldChecks}

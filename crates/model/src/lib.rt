@@ -3,7 +3,7 @@
 ghost use mathlib.Core.Bool.{_&&_};
 ghost use mathlib.Core.Path.{_≡_};
 ghost use Prim.Native.Nat.{_/_, _%_};
-ghost use lib.Dec.{leb, eqb};
+ghost use lib.Dec.{eqb};
 ghost use Rattle.lists.specs.Lists.{within};
 ghost use Rattle.model.specs.Answers.{offerNumber};
 ghost use Rattle.model.specs.Entries.{freeEntry};

@@ -1,7 +1,7 @@
 -- The table after an interval, and looking ahead: step F and "Looking ahead" of document 01. Assumes nothing.
 use Prim.Native.Nat.{ℕ, zero, suc, _+_, _-_}
 use mathlib.Core.Bool.{Bool, true, false, cond, _&&_, _||_}
-use mathlib.Core.List.{List, [], _∷_, map}
+use mathlib.Core.List.{List, [], map}
 use lib.Dec.{ltb, eqb}
 use Rattle.lists.specs.Lists.{keep, mostOf, anyOf}
 use Rattle.model.specs.Entries.{freeEntry, isHeld, isKind, isPiece}
@@ -25,7 +25,8 @@ standing e lives owed given left =
       left = record { 0 = left };
     }
 
--- with step B slots b and step C slots c owed falls by b, given grows by b and c, life and intervals left fall by one; kind 1 has a life alone
+-- with b slots of step B and c of step C owed falls by b, given grows by b and c, life and intervals left fall by one; kind 1 has a
+-- life alone
 unfoldable pub passed : (b c : ℕ) → Entry → Entry
 passed b c e =
     let for-pieces : ℕ → ℕ = cond (isKind 1 e) 0 in
@@ -43,7 +44,7 @@ settled e = cond (eqb (e .«life_left» .0) 0) freeEntry (cond (isKind 2 e && eq
 unfoldable pub stepF : (bs cs : List Grant) → List Entry → List Entry
 stepF bs cs es = map (λ (e : Entry). settled (passed (slotsFor (e .stream) bs) (slotsFor (e .stream) cs) e)) es
 
--- Looking ahead, steps A, B and F, interval by interval: a kind 2 or 3 request ends the interval of its deadline with owed above 0
+-- Looking ahead, steps A, B and F in turn: a kind 2 or 3 request ends the interval of its deadline with owed above 0
 abbrev pub misses : List Grant → Entry → Bool
 misses bs e = isPiece e && (eqb (e .left .0) 1 && ltb (slotsFor (e .stream) bs) (e .owed .0))
 

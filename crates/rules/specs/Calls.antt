@@ -1,12 +1,12 @@
 -- The calls: their answers, the table after them, and the words lent. Document 01, "Where each refusal is checked" and
 -- "Reading, lending, printing". Assumes nothing.
 use Prim.Native.Nat.{ℕ, _*_}
-use mathlib.Core.Bool.{Bool, true, false, cond, not}
+use mathlib.Core.Bool.{Bool, cond, not}
 use mathlib.Core.List.{List, [], _∷_, _++_, map}
 use lib.Dec.{ltb, leb, eqb}
 use lib.ListN.{length, drop, replicate}
 use Rattle.lists.specs.Lists.{within, keep, anyOf}
-use Rattle.model.specs.Requests.{Check, check, refusal, streamInRange, fieldChecks}
+use Rattle.model.specs.Requests.{check, refusal, streamInRange, fieldChecks}
 use Rattle.model.specs.Entries.{freeEntry, isHeld, isStream, entryOf}
 use Rattle.model.specs.declared.Entry.{Entry}
 use Rattle.model.specs.declared.Request.{Request}

@@ -2,10 +2,11 @@
 -- docs/DECISIONS.md says what was chosen. Assumes nothing.
 use Prim.Native.Nat.{ℕ, _*_}
 use mathlib.Core.Path.{_≡_, refl}
-use mathlib.Core.Bool.{Bool, true, false, _&&_}
+use mathlib.Core.Bool.{Bool, true, _&&_}
 use mathlib.Core.List.{List, [], _∷_, _++_}
 use lib.Dec.{eqb}
 use lib.ListN.{take, replicate}
+use Rattle.lists.specs.Lists.{sameList}
 use Rattle.model.specs.Requests.{refusal, fieldChecks}
 use Rattle.model.specs.Entries.{entryOf}
 use Rattle.model.specs.declared.Request.{Request}
@@ -82,17 +83,11 @@ answers a n = record { ask = a; answer = n; shown = [] }
 abbrev shows : Ask → List ℕ → Line
 shows a l = record { ask = a; answer = 0; shown = l }
 
-abbrev same : List ℕ → List ℕ → Bool
-same [] [] = true
-same [] (y ∷ ys) = false
-same (x ∷ xs) [] = false
-same (x ∷ xs) (y ∷ ys) = eqb x y && same xs ys
-
 abbrev plays : State → List Line → Bool
 plays s [] = true
 plays s (l ∷ ls) =
     let r = reply s (l .ask) in
-    (eqb (r .answer) (l .answer) && same (r .shown) (l .shown)) && plays (r .next) ls
+    (eqb (r .answer) (l .answer) && sameList (r .shown) (l .shown)) && plays (r .next) ls
 
 -- ---- the cases; each begins with an opening
 abbrev offers1 : List Line

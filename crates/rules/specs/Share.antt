@@ -1,6 +1,6 @@
 -- What each request gets of an interval: steps A to C of document 01, "One beacon".
 -- B is the number of slots of the interval, es are the entries held. Assumes nothing.
-use Prim.Native.Nat.{ℕ, _+_, _*_, _-_, _/_, min}
+use Prim.Native.Nat.{ℕ, _*_, _-_, _/_, min}
 use mathlib.Core.Bool.{Bool, cond, _&&_, _||_}
 use mathlib.Core.List.{List, [], _∷_, map}
 use lib.Dec.{ltb, leb, eqb}
