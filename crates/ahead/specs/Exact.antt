@@ -21,7 +21,7 @@ use Rattle.rules.specs.WellFormed.{Held}
 use Rattle.laws.specs.Held.{held-kinds, piece-of, fraction-not}
 use Rattle.laws.specs.Sources.{sourceOf, fraction-source, source-rem, source-left}
 use Rattle.laws.specs.Turns.{stepBOf}
-use Rattle.ahead.specs.Moved.{Together, moved, no-extras, moved-together, moved-life}
+use Rattle.ahead.specs.Moved.{Together, lifeOf, moved, no-extras, moved-together, moved-life}
 use Rattle.ahead.specs.Fits.{Fits, pieceOf, loads-now, fits-meets, fits-on, fits-back}
 
 -- ---- the test of a miss is the theory's
@@ -83,9 +83,6 @@ well-fits (suc n) B es w l h =
     (well-fits n B (moved B [] es) (moved-together B [] es w x) (moved-life B [] es w x n l) (p .2))
 
 -- ---- until every life is used up
-abbrev lifeOf : Entry → ℕ
-lifeOf e = e .«life_left» .0
-
 pub lives-most : (es : List Entry) → All (λ e. e .«life_left» .0 ≤ mostOf lifeOf es) es
 lives-most es = most-all lifeOf es (mostOf lifeOf es) (le-refl _)
 

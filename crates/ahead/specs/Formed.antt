@@ -1,17 +1,17 @@
 -- Every call keeps a table well formed: opening gives such a table, and offers, withdrawals and beacons, refused ones among them,
 -- leave one. So looking ahead accepts every table that calls reach. Assumes nothing.
-use mathlib.Core.Path.{_≡_, refl, sym, ap, subst, _∙_}
-use mathlib.Core.Logic.{_⊎_, inl, inr, ⊎-elim}
+use mathlib.Core.Path.{_≡_, refl, sym, subst, _∙_}
+use mathlib.Core.Logic.{_⊎_, inl, inr}
 use mathlib.Core.Bool.{Bool, true, false, cond}
 use mathlib.Core.List.{List, _∷_, map}
-use Prim.Native.Nat.{ℕ, zero, suc, _*_, _-_, _≤_, zero-le}
+use Prim.Native.Nat.{ℕ, zero, suc, _*_, _≤_, zero-le}
 use native.Mathlib.Nat.{le-refl}
 use native.Mathlib.Omega.{arith}
 use lib.Dec.{ltb, eqb, eqb·suc-zero}
 use lib.ListN.{length, replicate, length-replicate, length-map}
 use borrow.Author.Tests.{leb-false}
 use Rattle.lists.specs.Lists.{within, one-if, keep, sumOf}
-use Rattle.lists.specs.All.{All, stop, and, all-map, all-zip, all-of, all-keep, all-of-map, all-kept, any-none}
+use Rattle.lists.specs.All.{All, stop, and, all-map, all-of, all-of-map, any-none}
 use Rattle.lists.specs.Sums.{sum-le, sum-keep, sum-map}
 use Rattle.lists.specs.Picked.{Picked}
 use Rattle.model.specs.Requests.{refusal}
@@ -19,21 +19,20 @@ use Rattle.model.specs.Entries.{freeEntry, isHeld, isStream, entryOf}
 use Rattle.model.specs.declared.Entry.{Entry}
 use Rattle.model.specs.declared.Request.{Request}
 use Rattle.model.specs.declared.Table.{Table}
-use Rattle.rules.specs.Share.{slotsFor, stepC}
-use Rattle.rules.specs.Ahead.{stepF, goesWell, fitsAhead}
+use Rattle.rules.specs.Share.{stepC}
+use Rattle.rules.specs.Ahead.{goesWell, fitsAhead}
 use Rattle.rules.specs.Calls.{places, opened, heldOf, holds, offerAnswer, placed, offered, withdrawn, advanced, planOf}
 use Rattle.rules.specs.Calls.{recordWords, mostRecords, refusedBeacon, plannedBeacon, beacon}
 use Rattle.rules.specs.WellFormed.{Held, WellFormed}
 use Rattle.laws.specs.Grants.{once-cons}
 use Rattle.laws.specs.Held.{held-is, entry-held}
-use Rattle.laws.specs.Settled.{Granted, settled-held, after-free}
 use Rattle.laws.specs.Offers.{offerChecksBut, Passed, checks-passed, isFull, fits, answer-fits, answer-passed}
-use Rattle.laws.specs.Turns.{stepBOf}
-use Rattle.ahead.specs.Moved.{Together, stepOf, moved, own-extras, moved-together}
+use Rattle.laws.specs.Places.{Tidy, formed-tidy}
+use Rattle.ahead.specs.Moved.{Together, moved, own-extras}
 use Rattle.ahead.specs.Fits.{Fits, fits-on}
-use Rattle.ahead.specs.Exact.{ahead-fits, fits-ahead}
-use Rattle.ahead.specs.Tables.{real, formed-together, formed-fits, picked-together, picked-fits, fewer-fits}
-use Rattle.ahead.specs.Tables.{placed-all, placed-length, placed-picked, keep-free}
+use Rattle.ahead.specs.Exact.{ahead-fits}
+use Rattle.ahead.specs.Tables.{formed-together, formed-fits, tidy-formed, picked-together, picked-fits, picked-ahead, fewer-fits}
+use Rattle.ahead.specs.Tables.{placed-all, placed-length, placed-picked, stepped-held, stepped-tidy}
 
 -- ---- opening
 pub opened-formed : (u : ℕ) → within 1 1000 u ≡ true → WellFormed (opened u)
@@ -79,17 +78,23 @@ module _ (t : Table) (w : WellFormed t) (q : Request)
         placed-picked (entryOf q) (t .entries) (held-is passed-held)
         (omega (arith, w .size, leb-false places (length (heldOf t)) (passed-checks .place)))
 
-    passed-formed : fits t q ≡ true → WellFormed (record { interval = t .interval; entries = placed (entryOf q) (t .entries) })
-    passed-formed y =
-        let together = picked-together B passed-picked passed-together in
+    -- in the first free place the request leaves the table tidy, and looking ahead says of it what it said of the offer
+    pub placed-tidy : Tidy (record { interval = t .interval; entries = placed (entryOf q) (t .entries) })
+    placed-tidy =
         record {
           units = w .units;
           size = placed-length (entryOf q) (t .entries) ∙ w .size;
           entries = placed-all (entryOf q) (inr passed-held) (w .entries);
-          once = together .once;
-          fits = fits-ahead B (keep isHeld (placed (entryOf q) (t .entries))) together
-              (picked-fits B passed-picked (ahead-fits B (entryOf q ∷ heldOf t) passed-together y));
+          once = picked-together B passed-picked passed-together .once;
         }
+
+    pub placed-ahead : fitsAhead B (heldOf (record { interval = t .interval; entries = placed (entryOf q) (t .entries) }))
+        ≡ fitsAhead B (entryOf q ∷ heldOf t)
+    placed-ahead = picked-ahead B passed-picked passed-together
+
+    passed-formed : fits t q ≡ true → WellFormed (record { interval = t .interval; entries = placed (entryOf q) (t .entries) })
+    passed-formed y =
+        tidy-formed placed-tidy (picked-fits B passed-picked (ahead-fits B (entryOf q ∷ heldOf t) passed-together y))
 
 pub offered-formed : (t : Table) (q : Request) → WellFormed t → WellFormed (offered t q)
 unfolding offered
@@ -130,19 +135,14 @@ module _ (t : Table) (w : WellFormed t) (s : ℕ) where
 
   freed-formed : WellFormed (record { interval = t .interval; entries = map freed (t .entries) })
   freed-formed =
-      let together : Together (t .interval .0) (keep isHeld (map freed (t .entries))) =
-      record {
-        held = all-keep isHeld real freed-entries;
-        once = λ x. omega (arith, freed-sum (λ (e : Entry). one-if (isStream x e)), w .once x);
-      } in
-      record {
+      tidy-formed
+      (record {
         units = w .units;
         size = length-map (t .entries) freed ∙ w .size;
         entries = freed-entries;
-        once = together .once;
-        fits = fits-ahead (t .interval .0) (keep isHeld (map freed (t .entries))) together
-            (fewer-fits (t .interval .0) (heldOf t) (keep isHeld (map freed (t .entries))) freed-sum (formed-fits w));
-      }
+        once = λ x. omega (arith, freed-sum (λ (e : Entry). one-if (isStream x e)), w .once x);
+      })
+      (fewer-fits (t .interval .0) (heldOf t) (keep isHeld (map freed (t .entries))) freed-sum (formed-fits w))
 
 pub withdrawn-formed : (t : Table) (s : ℕ) → WellFormed t → WellFormed (withdrawn t s)
 unfolding withdrawn
@@ -162,39 +162,16 @@ module _ (t : Table) (w : WellFormed t) where
   abbrev es : List Entry
   es = heldOf t
 
-  abbrev steps : Entry → Entry
-  steps = stepOf slots (stepC slots es) es
-
   pub advanced-held : heldOf (advanced t) ≡ moved slots (stepC slots es) es
-  unfolding advanced stepF
-  advanced-held = keep-free steps (after-free _ _) (w .entries) (λ e h. held-is h)
-
-  advanced-entries : All (λ e. (e ≡ freeEntry) ⊎ Held slots e) (map steps (t .entries))
-  advanced-entries =
-      all-of-map steps
-      (all-zip (λ e h g. one e h g) (w .entries)
-      (all-kept (λ e. Granted (stepBOf slots es e) (slotsFor (e .stream) (stepC slots es)) e) isHeld (t .entries)
-      (own-extras slots es (w .once))))
-    where
-      one : (e : Entry) → (e ≡ freeEntry) ⊎ Held slots e
-          → (isHeld e ≡ true → Granted (stepBOf slots es e) (slotsFor (e .stream) (stepC slots es)) e)
-          → (steps e ≡ freeEntry) ⊎ Held slots (steps e)
-      one e (inl q) g = inl (ap steps q ∙ after-free _ _)
-      one e (inr h) g = ⊎-elim inl (λ r. inr (r .1)) (settled-held slots _ _ e h (g (held-is h)))
+  unfolding advanced
+  advanced-held = stepped-held (stepC slots es) t (formed-tidy w)
 
   pub advanced-formed : WellFormed (advanced t)
-  unfolding advanced stepF
+  unfolding advanced
   advanced-formed =
       let x = own-extras slots es (w .once) in
-      let together = subst (Together slots) (sym advanced-held) (moved-together slots (stepC slots es) es (formed-together w) x) in
-      record {
-        units = w .units;
-        size = length-map (t .entries) steps ∙ w .size;
-        entries = advanced-entries;
-        once = together .once;
-        fits = fits-ahead slots (heldOf (advanced t)) together
-            (subst (Fits slots) (sym advanced-held) (fits-on slots (stepC slots es) es (formed-together w) x (formed-fits w)));
-      }
+      tidy-formed (stepped-tidy (stepC slots es) t (formed-tidy w) x)
+      (subst (Fits slots) (sym advanced-held) (fits-on slots (stepC slots es) es (formed-together w) x (formed-fits w)))
 
 pub beacon-formed : (t : Table) (ws : List ℕ) → WellFormed t → WellFormed (beacon t ws .table)
 unfolding beacon

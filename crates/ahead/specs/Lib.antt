@@ -2,4 +2,5 @@ pub mod Moved
 pub mod Fits
 pub mod Exact
 pub mod Tables
+pub mod Loop
 pub mod Formed

@@ -1,16 +1,17 @@
--- The held entries over an interval: those that stay are held, no stream stands twice among them, and a sum over them is the sum over
--- the entries before, each as the interval left it. Assumes nothing.
+-- The held entries over an interval: those that stay are held, no stream stands twice among them, a sum over them is the sum over
+-- the entries before, each as the interval left it, and the longest life is one shorter. Assumes nothing.
 use mathlib.Core.Path.{_≡_, refl, sym, ap, _∙_}
 use mathlib.Core.Logic.{_⊎_, inl, inr, ⊎-elim}
-use mathlib.Core.Bool.{true, cond}
+use mathlib.Core.Bool.{true, false, cond}
 use mathlib.Core.List.{List, [], map}
-use Prim.Native.Nat.{ℕ, suc, _≤_, zero-le}
+use Prim.Native.Nat.{ℕ, suc, _-_, _≤_, zero-le}
 use native.Mathlib.Nat.{le-of-eq}
 use native.Mathlib.Omega.{arith}
-use Rattle.lists.specs.Lists.{one-if, keep, sumOf}
+use Rattle.lists.specs.Lists.{one-if, keep, sumOf, mostOf}
 use Rattle.lists.specs.Tests.{clash}
-use Rattle.lists.specs.All.{All, all-map, all-zip, all-both, all-keep, all-of-map}
+use Rattle.lists.specs.All.{All, all-map, all-zip, all-both, all-of, all-keep, all-of-map}
 use Rattle.lists.specs.Sums.{sum-ext, sum-le, sum-keep, sum-map}
+use Rattle.lists.specs.Most.{most-keep, most-less, most-map}
 use Rattle.model.specs.Entries.{freeEntry, isHeld, isStream}
 use Rattle.model.specs.declared.Entry.{Entry}
 use Rattle.rules.specs.Share.{Grant, slotsFor, stepB, stepC}
@@ -38,6 +39,9 @@ moved B cs es = keep isHeld (stepF (stepB B es) cs es)
 -- the extras may be given beside step B
 abbrev pub Extras : ℕ → List Grant → List Entry → Type 0
 Extras B cs es = All (λ e. Granted (stepBOf B es e) (slotsFor (e .stream) cs) e) es
+
+abbrev pub lifeOf : Entry → ℕ
+lifeOf e = e .«life_left» .0
 
 -- ---- the extras of step C, and none, as looking ahead has it
 module _ (B : ℕ) (es : List Entry) (w : Once es) where
@@ -98,3 +102,15 @@ module _ (B : ℕ) (cs : List Grant) (es : List Entry) (w : Together B es) (x : 
   moved-life n l =
       all-keep isHeld (λ y q k. k)
       (all-of-map (stepOf B cs es) (all-map (λ e k. omega (arith, after-life (stepBOf B es e) (slotsFor (e .stream) cs) e)) l))
+
+  -- the longest life is one shorter: only a life that is over leaves
+  pub moved-most : mostOf lifeOf (moved B cs es) ≡ mostOf lifeOf es - 1
+  unfolding stepF
+  moved-most =
+      most-keep lifeOf isHeld (all-of-map (stepOf B cs es) (all-map (λ e s. over e (stepOf B cs es e) s) steps-stay))
+      ∙ most-map lifeOf (stepOf B cs es) es
+      ∙ most-less lifeOf (λ e. lifeOf (stepOf B cs es e)) (all-of es (λ e. after-life (stepBOf B es e) (slotsFor (e .stream) cs) e))
+    where
+      over : (e y : Entry) → Stays B e y → isHeld y ≡ false → lifeOf y ≡ 0
+      over e y (inl q) z = ap lifeOf q
+      over e y (inr q) z = absurd (clash (isHeld y) (held-is (q .1)) z)

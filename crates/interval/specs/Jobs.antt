@@ -116,7 +116,7 @@ kinds-apart h =
     (λ p. piece-of e (p .kind) ∙ sym (ap not (not-fraction e (p .kind)))) (held-kinds w)) h
 
 module _ {B : ℕ} {es : List Entry} (w : All (Held B) es) where
-  tie-sum : (f : Entry → ℕ) → sumOf f (tieOrder es) ≡ sumOf f es
+  pub tie-sum : (f : Entry → ℕ) → sumOf f (tieOrder es) ≡ sumOf f es
   unfolding tieOrder
   tie-sum f =
       omega (
@@ -134,7 +134,7 @@ module _ {B : ℕ} {es : List Entry} (w : All (Held B) es) where
       one true v = omega arith
       one false v = omega arith
 
-  all-tie : {P : Entry → Type 0} → All P es → All P (tieOrder es)
+  pub all-tie : {P : Entry → Type 0} → All P es → All P (tieOrder es)
   unfolding tieOrder
   all-tie h = all-append (all-sort lower (all-keep (isKind 1) (λ e q p. p) h)) (all-order (all-map (λ e p q. p) h))
 

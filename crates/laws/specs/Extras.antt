@@ -4,7 +4,7 @@ use mathlib.Core.Path.{_≡_, refl, ap, ap₂, _∙_}
 use mathlib.Core.Logic.{_⊎_, inl, inr}
 use mathlib.Core.Bool.{Bool, true, false, cond, not}
 use mathlib.Core.List.{List}
-use Prim.Native.Nat.{ℕ, _+_, _*_, _-_, _/_, _≤_, _<_, zero-le}
+use Prim.Native.Nat.{ℕ, _+_, _*_, _/_, _≤_, _<_, zero-le}
 use native.Mathlib.Nat.{le-of-eq, mul-zero, one-mul, mul-comm, mul-add, mul-le-mul-left, div-le-of-le-mul}
 use native.Mathlib.Decide.{ℕ-discrete, decLe}
 use native.Mathlib.Omega.{arith}
@@ -82,7 +82,7 @@ extras-fit L t d es =
     W = sumOf (λ e. t e * d e) es
 
 module _ (B : ℕ) (es : List Entry) (w : Once es) where
-  stepC-of : All (λ e. stepCOf B es e ≡ extra (remains B es) (weight (stepB B es) es) (headroomOf B es e)) es
+  pub stepC-of : All (λ e. stepCOf B es e ≡ extra (remains B es) (weight (stepB B es) es) (headroomOf B es e)) es
   unfolding stepC
   stepC-of = slots-map (λ e. extra (remains B es) (weight (stepB B es) es) (headroomOf B es e)) es w
 

@@ -9,3 +9,4 @@ pub mod Extras
 pub mod Refusals
 pub mod Offers
 pub mod Places
+pub mod Closed

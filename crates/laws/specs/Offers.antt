@@ -74,7 +74,7 @@ ranges-numbered : {x y z : Bool} → Numbered 15 (check 13 x ∷ check 14 y ∷ 
 ranges-numbered =
     numbered 13 (omega arith) (omega arith) (numbered 14 (omega arith) (omega arith) (numbered 15 (omega arith) (omega arith) stop))
 
-fields-numbered : (B : ℕ) (q : Request) → Numbered 15 (fieldChecks B q)
+pub fields-numbered : (B : ℕ) (q : Request) → Numbered 15 (fieldChecks B q)
 unfolding fieldChecks
 fields-numbered B q = go (eqb (q .kind) 1) (eqb (q .kind) 2) (eqb (q .kind) 3)
   where

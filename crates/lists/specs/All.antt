@@ -4,7 +4,7 @@ use mathlib.Core.Bool.{Bool, true, false, cond, _||_}
 use mathlib.Core.List.{List, [], _∷_, _++_, map}
 use Prim.Native.Nat.{ℕ, zero, suc, _≤_, _<_}
 use native.Mathlib.Omega.{arith}
-use lib.ListN.{length, getD}
+use lib.ListN.{length, getD, take, replicate}
 use Rattle.lists.specs.Lists.{cons-if, keep, mostOf, anyOf, insert, sort, concatMap}
 use Rattle.lists.specs.Tests.{clash, or-false}
 
@@ -102,6 +102,15 @@ module _ {A : Type 0} where
   pub all-right : (P : A → Type 0) (xs ys : List A) → All P (xs ++ ys) → All P ys
   all-right P [] ys h = h
   all-right P (x ∷ xs) ys h = all-right P xs ys (tail h)
+
+  pub all-take : {P : A → Type 0} (n : ℕ) {xs : List A} → All P xs → All P (take n xs)
+  all-take zero h = stop
+  all-take (suc n) stop = stop
+  all-take (suc n) (and p h) = and p (all-take n h)
+
+  pub all-replicate : (P : A → Type 0) (n : ℕ) (x : A) → P x → All P (replicate n x)
+  all-replicate P zero x p = stop
+  all-replicate P (suc n) x p = and p (all-replicate P n x p)
 
   -- ---- tests
   pub most-all : (f : A → ℕ) (xs : List A) (m : ℕ) → mostOf f xs ≤ m → All (λ x. f x ≤ m) xs

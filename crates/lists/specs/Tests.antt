@@ -17,6 +17,12 @@ either false = inr refl
 pub clash : (b : Bool) → b ≡ true → b ≡ false → ⊥
 clash b x y = true≢false (sym x ∙ y)
 
+-- two tests that pass together are the same
+pub same-test : (a b : Bool) → (a ≡ true → b ≡ true) → (b ≡ true → a ≡ true) → a ≡ b
+same-test true b h k = sym (h refl)
+same-test false true h k = k refl
+same-test false false h k = refl
+
 pub and-both : (a b : Bool) → (a && b) ≡ true → (a ≡ true) × (b ≡ true)
 and-both true b h = (refl, h)
 and-both false b h = absurd (clash false h refl)

@@ -1,0 +1,116 @@
+-- Loops over a list, from the front: after i turns the first i elements are replaced, or added up, or passed in a search, and what is
+-- left gives what the whole gives. The code's next turn is i + 1. Assumes nothing.
+use mathlib.Core.Path.{_≡_, refl, sym, ap, ap₂, _∙_}
+use mathlib.Core.Bool.{Bool, true, false, _&&_, _||_}
+use mathlib.Core.List.{List, [], _∷_, _++_, map, map-append, append-assoc}
+use Prim.Native.Nat.{ℕ, zero, suc, _+_, _≤_, _<_}
+use native.Mathlib.Nat.{not-suc-le-zero, le-of-suc-le-suc}
+use native.Mathlib.Numerals.{add-one}
+use native.Mathlib.Omega.{arith}
+use lib.ListN.{length, take, drop, set, getD, drop-of-length-le}
+use lib.Seq.{take-suc, take-suc-set, take-all, drop-cons, set-split}
+use Rattle.lists.specs.Lists.{cons-if, one-if, keep, sumOf, anyOf}
+use Rattle.lists.specs.All.{All, stop, and}
+
+-- ---- one turn, at place i; a read past the end would give d
+module _ {A : Type 0} (xs : List A) (i : ℕ) (d : A) (h : i < length xs) where
+  -- what is left begins with the element
+  pub left-next : drop i xs ≡ getD xs i d ∷ drop (i + 1) xs
+  left-next = rw add-one (drop-cons xs i d h)
+
+  -- what is passed ends with it
+  pub passed-next : (ys : List A) → take (i + 1) xs ++ ys ≡ take i xs ++ getD xs i d ∷ ys
+  passed-next ys = rw (add-one, take-suc xs i d h) (append-assoc (take i xs) (getD xs i d ∷ []) ys)
+
+  pub set-next : (x : A) → set xs i x ≡ take i xs ++ x ∷ drop (i + 1) xs
+  set-next x = rw add-one (set-split xs i x h)
+
+-- ---- a loop that replaces each element
+module _ {A : Type 0} (f : A → A) where
+  -- the first i replaced, the others as they were
+  abbrev pub mapped : ℕ → List A → List A
+  mapped i xs = map f (take i xs) ++ drop i xs
+
+  mapped-suc : (xs : List A) (i : ℕ) (d : A) → i < length xs → set (mapped i xs) i (f (getD xs i d)) ≡ mapped (suc i) xs
+  mapped-suc [] i d h = absurd (not-suc-le-zero h)
+  mapped-suc (x ∷ xs) zero d h = refl
+  mapped-suc (x ∷ xs) (suc i) d h = ap (λ l. f x ∷ l) (mapped-suc xs i d (le-of-suc-le-suc h))
+
+  pub mapped-more : (xs : List A) (i : ℕ) (d : A) → i < length xs → set (mapped i xs) i (f (getD xs i d)) ≡ mapped (i + 1) xs
+  mapped-more xs i d h = rw add-one (mapped-suc xs i d h)
+
+  pub mapped-all : (xs : List A) (i : ℕ) → length xs ≤ i → mapped i xs ≡ map f xs
+  mapped-all [] zero h = refl
+  mapped-all [] (suc i) h = refl
+  mapped-all (x ∷ xs) zero h = absurd (not-suc-le-zero h)
+  mapped-all (x ∷ xs) (suc i) h = ap (λ l. f x ∷ l) (mapped-all xs i (le-of-suc-le-suc h))
+
+-- ---- a loop that fills another list by the elements
+module _ {A B : Type 0} (f : A → B) (xs : List A) (ys : List B) (i : ℕ) where
+  -- the first i are filled
+  abbrev pub Copied : Type 0
+  Copied = take i ys ≡ map f (take i xs)
+
+  pub copied-more : {v : B} (d : A) → i < length xs → i < length ys → Copied → v ≡ f (getD xs i d)
+      → take (i + 1) (set ys i v) ≡ map f (take (i + 1) xs)
+  copied-more {v} d h k e q = rw (add-one i, take-suc-set ys i v k, take-suc xs i d h, map-append, e, q)
+
+  pub copied-all : length xs ≤ i → length ys ≤ i → Copied → ys ≡ map f xs
+  copied-all h k e = sym (take-all i ys k) ∙ e ∙ ap (map f) (take-all i xs h)
+
+-- ---- a loop that adds up f of each element
+module _ {A : Type 0} (f : A → ℕ) where
+  abbrev pub summed : ℕ → List A → ℕ
+  summed i xs = sumOf f (take i xs)
+
+  summed-suc : (xs : List A) (i : ℕ) (d : A) → i < length xs → summed i xs + f (getD xs i d) ≡ summed (suc i) xs
+  summed-suc [] i d h = absurd (not-suc-le-zero h)
+  summed-suc (x ∷ xs) zero d h = omega arith
+  summed-suc (x ∷ xs) (suc i) d h = omega (arith, summed-suc xs i d (le-of-suc-le-suc h))
+
+  -- what the code has so far, and the number that it adds
+  pub summed-more : {all v : ℕ} (xs : List A) (i : ℕ) (d : A) → i < length xs → all ≡ summed i xs → v ≡ f (getD xs i d)
+      → all + v ≡ summed (i + 1) xs
+  summed-more xs i d h p q = rw (add-one, p, q) (summed-suc xs i d h)
+
+  pub summed-all : (xs : List A) (i : ℕ) → length xs ≤ i → summed i xs ≡ sumOf f xs
+  summed-all xs i h = ap (sumOf f) (take-all i xs h)
+
+-- ---- a loop that stops at the first element that passes a test: what is left has one exactly where v says so
+module _ {A : Type 0} (p : A → Bool) (xs : List A) (i : ℕ) {v : Bool} (w : anyOf p (drop i xs) ≡ v) where
+  -- the test of an element and what the code found it to be
+  any-next : {b c : Bool} (d : A) → i < length xs → b ≡ p (getD xs i d) → b ≡ c → (c || anyOf p (drop (i + 1) xs)) ≡ v
+  any-next d h q r = ap (λ a. a || anyOf p (drop (i + 1) xs)) (sym r ∙ q) ∙ sym (ap (anyOf p) (left-next xs i d h)) ∙ w
+
+  pub any-found : {b : Bool} (d : A) → i < length xs → b ≡ p (getD xs i d) → b ≡ true → true ≡ v
+  any-found d h q r = any-next d h q r
+
+  pub any-passed : {b : Bool} (d : A) → i < length xs → b ≡ p (getD xs i d) → b ≡ false → anyOf p (drop (i + 1) xs) ≡ v
+  any-passed d h q r = any-next d h q r
+
+  pub any-ended : length xs ≤ i → false ≡ v
+  any-ended h = sym (ap (anyOf p) (drop-of-length-le xs h)) ∙ w
+
+-- ---- over all elements, where a definition speaks of those that are kept
+module _ {A : Type 0} where
+  pub any-ext : (p q : A → Bool) {xs : List A} → All (λ x. p x ≡ q x) xs → anyOf p xs ≡ anyOf q xs
+  any-ext p q stop = refl
+  any-ext p q (and e h) = ap₂ _||_ e (any-ext p q h)
+
+  pub any-keep : (p k : A → Bool) (xs : List A) → anyOf p (keep k xs) ≡ anyOf (λ x. k x && p x) xs
+  any-keep p k [] = refl
+  any-keep p k (x ∷ xs) = go (k x) (any-keep p k xs)
+    where
+      go : (b : Bool) → anyOf p (keep k xs) ≡ anyOf (λ x. k x && p x) xs
+          → anyOf p (cons-if b x (keep k xs)) ≡ ((b && p x) || anyOf (λ x. k x && p x) xs)
+      go true e = ap (λ c. p x || c) e
+      go false e = e
+
+  pub length-count : (k : A → Bool) (xs : List A) → length (keep k xs) ≡ sumOf (λ x. one-if (k x)) xs
+  length-count k [] = refl
+  length-count k (x ∷ xs) = go (k x) (length-count k xs)
+    where
+      go : (b : Bool) → length (keep k xs) ≡ sumOf (λ x. one-if (k x)) xs
+          → length (cons-if b x (keep k xs)) ≡ one-if b + sumOf (λ x. one-if (k x)) xs
+      go true e = omega arith
+      go false e = omega arith
