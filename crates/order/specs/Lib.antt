@@ -1,0 +1,3 @@
+pub mod Ties
+pub mod Filled
+pub mod Inserted
