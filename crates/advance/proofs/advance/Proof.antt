@@ -1,0 +1,92 @@
+use mathlib.Core.Path.{_≡_, refl, ap, _∙_}
+use mathlib.Core.List.{List, map}
+use Prim.Native.Nat.{_-_, _≤_}
+use native.Mathlib.Omega.{arith}
+use borrow.Author.Needs.{needs}
+use Rattle.lists.specs.All.{all-at}
+use Rattle.lists.specs.Loops.{mapped, mapped-more, mapped-all}
+use Rattle.model.specs.declared.Entry.{Entry}
+use Rattle.share.specs.Shares.{grantOf}
+use Rattle.share.specs.declared.Sharing.{Sharing}
+use Rattle.share.proofs.Known.{inside, past}
+use Rattle.advance.specs.Next.{WithinAmounts, withEntries, afterGrant, advanced-places, grants-within}
+use Rattle.advance.proofs.advance.Statement.{statement}
+use Rattle.advance.proofs.advance.Tie as tie
+
+abbrev stepBy : Sharing → List Entry → Entry → Entry
+stepBy s ps e = afterGrant (grantOf s ps e) e
+
+abbrev Inv-loop : tie.InvT-loop
+Inv-loop s t next₀ i₀ next i = (i ≤ 32) × (next ≡ withEntries t (mapped (stepBy s (t .entries)) i (t .entries)))
+
+abbrev μ-loop : tie.MeasureT-loop
+μ-loop s t next₀ i₀ next i = 32 - i
+
+loop-holds : tie.Need-loop-holds Inv-loop μ-loop
+loop-holds c = (omega arith, refl)
+
+mul-e : tie.Need-mul-e Inv-loop μ-loop
+mul-e c = search needs
+
+element-copy-out-e : tie.Need-element-copy-out-e Inv-loop μ-loop
+element-copy-out-e c = search needs
+
+grant-requires : tie.Need-grant-requires Inv-loop μ-loop
+grant-requires c κs = search needs
+
+after-grant-requires : tie.Need-after-grant-requires Inv-loop μ-loop
+after-grant-requires c κs =
+    let s = c .before .before .before .before in
+    let t = s .args .t1 in
+    let h = inside t (s .good .0) (c .before .before .loop-test .taken) in
+    rw (c .grant .ensures)
+    (all-at (λ e. WithinAmounts (grantOf (s .args .s) (t .entries) e) e) _ _ (grants-within t (s .pre .0) (s .args .s)) _ h)
+
+mul-n : tie.Need-mul-n Inv-loop μ-loop
+mul-n c = search needs
+
+element-set-from-n : tie.Need-element-set-from-n Inv-loop μ-loop
+element-set-from-n c = search needs
+
+add-i : tie.Need-add-i Inv-loop μ-loop
+add-i c = search needs
+
+loop-less : tie.Need-loop-less Inv-loop μ-loop
+loop-less c = search needs
+
+loop-again : tie.Need-loop-again Inv-loop μ-loop
+loop-again c =
+    let s = c .before .before .before .before .before in
+    let t = s .args .t1 in
+    let h = inside t (s .good .0) (c .before .before .before .loop-test .taken) in (
+      omega arith,
+      rw (c .after-grant .ensures, c .before .grant .ensures, c .before .before .before .before .loop .inv .1)
+          (ap (withEntries t) (mapped-more (stepBy (s .args .s) (t .entries)) (t .entries) _ _ h)),
+    )
+
+returns : tie.Need-returns Inv-loop μ-loop
+returns c =
+    let s = c .before .before in
+    let t = s .args .t1 in
+    c .before .loop .inv .1
+    ∙ ap (withEntries t) (mapped-all (stepBy (s .args .s) (t .entries)) (t .entries) _ (past t (s .good .0) (c .loop-test .left)))
+    ∙ ap (λ k. withEntries t (map (stepBy k (t .entries)) (t .entries))) (s .pre .1)
+    ∙ advanced-places t (s .pre .0)
+
+pub advance-spec : {M : Type 1} → statement M
+advance-spec =
+    tie.close
+    (tie.spec
+    Inv-loop
+    μ-loop
+    loop-holds
+    mul-e
+    element-copy-out-e
+    grant-requires
+    after-grant-requires
+    mul-n
+    element-set-from-n
+    add-i
+    loop-less
+    loop-again
+    returns)

@@ -1,0 +1,149 @@
+// The table after an interval: step F of document 01, "One beacon"; and what an interval of looking ahead asks: its missed deadlines,
+// and the table after it.
+ghost use mathlib.Core.Path.{_≡_};
+ghost use Rattle.lists.specs.Lists.{anyOf};
+ghost use Rattle.rules.specs.Share.{capacity as capacityOf, stepB};
+ghost use Rattle.rules.specs.Ahead.{passed, renewed, settled, misses};
+ghost use Rattle.rules.specs.Calls.{heldOf, advanced};
+ghost use Rattle.laws.specs.Places.{Tidy};
+ghost use Rattle.ahead.specs.Loop.{lookedPast};
+ghost use Rattle.share.specs.Shares.{sharingOf};
+ghost use Rattle.advance.specs.Next.{WithinAmounts, afterGrant, missesBy};
+
+pub mod places; // places.rt: which streams a table holds, and a place taken or given back
+
+use model::Entry;
+use model::Slots;
+use model::Table;
+use share::Granted;
+use share::Sharing;
+
+// ---- one entry
+// Owed falls by its piece, given grows by its piece and its extra, life and intervals left fall by one; kind 1 has a life alone.
+// What was given stays within the amounts of the request, so it has 32 bits.
+fn passed(e: Entry, g: Granted) -> Entry
+    requires { ⌜ WithinAmounts g e ⌝ }
+    ensures { λ r. ⌜ r ≡ passed (g .piece .0) (g .extra .0) e ⌝ }
+{
+    let kind = e.kind;
+    let life_left = share::less(e.life_left.0, 1);
+    let mut next = e;
+    next.life_left.0 = life_left;
+    if kind == 1 {
+        next.owed.0 = 0;
+        next.given.0 = 0;
+        next.left.0 = 0;
+        return next;
+    }
+    let owed = share::less(e.owed.0, g.piece.0);
+    let given = e.given.0 + g.piece.0 + g.extra.0;
+    let left = share::less(e.left.0, 1);
+    next.owed.0 = owed;
+    next.given.0 = given;
+    next.left.0 = left;
+    next
+}
+
+// The next period begins.
+fn renewed(e: Entry) -> Entry
+    ensures { λ r. ⌜ r ≡ renewed e ⌝ }
+{
+    let owed = e.min;
+    let left = e.period;
+    let mut next = e;
+    next.owed = owed;
+    next.given.0 = 0;
+    next.left = left;
+    next
+}
+
+// An entry with life 0 leaves; a kind 2 entry with 0 intervals left begins its next period.
+fn settled(e: Entry) -> Entry
+    ensures { λ r. ⌜ r ≡ settled e ⌝ }
+{
+    let life = e.life_left.0;
+    if life == 0 {
+        return model::free_entry();
+    }
+    let kind = e.kind;
+    let left = e.left.0;
+    if kind == 2 {
+        if left == 0 {
+            return renewed(e);
+        }
+    }
+    e
+}
+
+fn after_grant(e: Entry, g: Granted) -> Entry
+    requires { ⌜ WithinAmounts g e ⌝ }
+    ensures { λ r. ⌜ r ≡ afterGrant g e ⌝ }
+{
+    settled(passed(e, g))
+}
+
+// Whether an entry's deadline is the end of this interval, and its piece is less than what it is owed.
+fn misses_deadline(t: Table, capacity: Slots, e: Entry) -> bool
+    ensures { λ r. ⌜ r ≡ missesBy (capacity .0) (t .entries) e ⌝ }
+{
+    let left = e.left.0;
+    if left != 1 {
+        return false;
+    }
+    if share::is_piece(e) {
+        let got = share::piece_slots(t, capacity, e);
+        return got.0 < e.owed.0;
+    }
+    false
+}
+
+// ---- a table
+// Each entry is read from the table as it was: what one gets depends on what the others are owed.
+pub fn advance(t: Table, s: Sharing) -> Table
+    requires { ⌜ Tidy t ⌝ }
+    requires { ⌜ s ≡ sharingOf t ⌝ }
+    ensures { λ r. ⌜ r ≡ advanced t ⌝ }
+{
+    let mut next = t;
+    for i in 0..32 {
+        let e = t.entries[i];
+        let g = share::grant(t, s, e);
+        let n = after_grant(e, g);
+        next.entries[i] = n;
+    }
+    next
+}
+
+// Looking ahead gives no extras.
+pub fn advance_without_extras(t: Table, capacity: Slots) -> Table
+    requires { ⌜ Tidy t ⌝ }
+    requires { ⌜ capacity .0 ≡ capacityOf (t .interval .0) (heldOf t) ⌝ }
+    ensures { λ r. ⌜ r ≡ lookedPast t ⌝ }
+{
+    let mut next = t;
+    for i in 0..32 {
+        let e = t.entries[i];
+        let piece = share::piece_slots(t, capacity, e);
+        let g = Granted {
+            piece,
+            extra: Slots(0),
+        };
+        let n = after_grant(e, g);
+        next.entries[i] = n;
+    }
+    next
+}
+
+pub fn misses(t: Table, capacity: Slots) -> bool
+    requires { ⌜ Tidy t ⌝ }
+    requires { ⌜ capacity .0 ≡ capacityOf (t .interval .0) (heldOf t) ⌝ }
+    ensures { λ r. ⌜ r ≡ anyOf (misses (stepB (t .interval .0) (heldOf t))) (heldOf t) ⌝ }
+{
+    for i in 0..32 {
+        let e = t.entries[i];
+        if misses_deadline(t, capacity, e) {
+            return true;
+        }
+    }
+    false
+}
