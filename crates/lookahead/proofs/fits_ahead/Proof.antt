@@ -1,0 +1,89 @@
+use mathlib.Core.Path.{_≡_, refl}
+use borrow.Author.Needs.{needs}
+use Rattle.lists.specs.Lists.{mostOf}
+use Rattle.rules.specs.Calls.{heldOf}
+use Rattle.laws.specs.Places.{Tidy}
+use Rattle.ahead.specs.Moved.{lifeOf}
+use Rattle.lookahead.specs.Turn.{ahead, none-left, stops-full, stops-late, next-less, next-tidy, next-same}
+use Rattle.lookahead.proofs.fits_ahead.Statement.{statement}
+use Rattle.lookahead.proofs.fits_ahead.Tie as tie
+
+-- looking ahead says of the table at hand what it says of the first
+abbrev Inv-loop : tie.InvT-loop
+Inv-loop now₀ now = Tidy now × (ahead now ≡ ahead now₀)
+
+abbrev μ-loop : tie.MeasureT-loop
+μ-loop now₀ now = mostOf lifeOf (heldOf now)
+
+loop-holds : tie.Need-loop-holds Inv-loop μ-loop
+loop-holds c = (c .pre, refl)
+
+any-held-requires : tie.Need-any-held-requires Inv-loop μ-loop
+any-held-requires c κs = search needs
+
+overfull-requires : tie.Need-overfull-requires Inv-loop μ-loop
+overfull-requires c κs = search needs
+
+returns : tie.Need-returns Inv-loop μ-loop
+returns c =
+    let h = c .before .before in
+    let l = h .before .before .loop in
+    let found = h .before .any-held .ensures in
+    stops-full (l .now) found (h .if1 .taken) (l .inv .0) (c .before .overfull .ensures) (c .if2 .taken) (l .inv .1)
+
+capacity-requires : tie.Need-capacity-requires Inv-loop μ-loop
+capacity-requires c κs = search needs
+
+misses-requires : tie.Need-misses-requires Inv-loop μ-loop
+misses-requires c κs = search needs
+
+returns-2 : tie.Need-returns-2 Inv-loop μ-loop
+returns-2 c =
+    let h = c .before .before .before .before .before in
+    let l = h .before .before .loop in
+    let found = h .before .any-held .ensures in
+    stops-late (l .now) found (h .if1 .taken) (l .inv .0) (c .before .misses .ensures) (c .if3 .taken) (l .inv .1)
+
+advance-without-extras-requires : tie.Need-advance-without-extras-requires Inv-loop μ-loop
+advance-without-extras-requires c κs = search needs
+
+loop-less : tie.Need-loop-less Inv-loop μ-loop
+loop-less c =
+    let h = c .before .before .before .before .before .before in
+    let l = h .before .before .loop in
+    next-less (l .now) (h .before .any-held .ensures) (h .if1 .taken) (l .inv .0) (c .advance-without-extras .ensures)
+
+loop-again : tie.Need-loop-again Inv-loop μ-loop
+loop-again c =
+    let o = c .before .before .before .before in
+    let h = o .before .before in
+    let l = h .before .before .loop in
+    let e = c .advance-without-extras .ensures in
+    let found = h .before .any-held .ensures in (
+      next-tidy (l .now) found (h .if1 .taken) (l .inv .0) e,
+      next-same (l .now) found (h .if1 .taken) (l .inv .0) e (o .before .overfull .ensures) (o .if2 .left)
+          (c .before .before .misses .ensures) (c .before .if3 .left) (l .inv .1),
+    )
+
+returns-3 : tie.Need-returns-3 Inv-loop μ-loop
+returns-3 c =
+    let l = c .before .before .loop in
+    none-left (l .now) (c .before .any-held .ensures) (c .if1 .left) (l .inv .1)
+
+pub fits-ahead-spec : {M : Type 1} → statement M
+fits-ahead-spec =
+    tie.close
+    (tie.spec
+    Inv-loop
+    μ-loop
+    loop-holds
+    any-held-requires
+    overfull-requires
+    returns
+    capacity-requires
+    misses-requires
+    returns-2
+    advance-without-extras-requires
+    loop-less
+    loop-again
+    returns-3)

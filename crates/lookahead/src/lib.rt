@@ -1,0 +1,42 @@
+// Looking ahead: steps A, B and F in turn until every life is used up. Document 01, "Looking ahead".
+ghost use mathlib.Core.Path.{_≡_};
+ghost use Rattle.lists.specs.Lists.{anyOf};
+ghost use Rattle.model.specs.Entries.{isHeld};
+ghost use Rattle.rules.specs.Ahead.{fitsAhead};
+ghost use Rattle.rules.specs.Calls.{heldOf};
+ghost use Rattle.laws.specs.Places.{Tidy};
+use model::Table;
+
+// Whether any place is held: a free one has stream 0.
+fn any_held(t: Table) -> bool
+    ensures { λ r. ⌜ r ≡ anyOf isHeld (t .entries) ⌝ }
+{
+    for i in 0..32 {
+        let e = t.entries[i];
+        let stream = e.stream;
+        if stream != 0 {
+            return true;
+        }
+    }
+    false
+}
+
+// Stops at the first miss, and when all lives are used up.
+pub fn fits_ahead(t: Table) -> bool
+    requires { ⌜ Tidy t ⌝ }
+    ensures { λ r. ⌜ r ≡ fitsAhead (t .interval .0) (heldOf t) ⌝ }
+{
+    let mut now = t;
+    while any_held(now) {
+        if share::overfull(now) {
+            return false;
+        }
+        let capacity = share::capacity(now);
+        if advance::misses(now, capacity) {
+            return false;
+        }
+        let next = advance::advance_without_extras(now, capacity);
+        now = next;
+    }
+    true
+}
