@@ -1,0 +1,328 @@
+-- `plan::write_plan` meets its contract. The invariant: what stands at t is a state of the plan, heads has the first unfinished job of
+-- each row, and next, if it is ahead, is the next release. The measure is what is to come, so the turns are few. Assumes nothing.
+use mathlib.Core.Option.{none, some}
+use mathlib.Core.Path.{_≡_, sym, ap, subst, _∙_}
+use mathlib.Core.List.{List, [], map}
+use Prim.Native.Nat.{ℕ, _≤_, _<_, _+_, _*_, _-_, min}
+use native.Mathlib.Omega.{arith}
+use lib.ListN.{length, getD, set}
+use lib.Seq.{getD-set-same}
+use borrow.Author.Needs.{needs}
+use denote.Array.{Array}
+use denote.Builtin.{u32}
+use Rattle.rules.specs.Slots.{Job, Run, choose}
+use Rattle.plan.specs.Rows.{rowJobs, rowPlan}
+use Rattle.plan.specs.RowLaws.{needAt, jobIn, Wide, plan-few}
+use Rattle.plan.specs.Heads.{heads-set, firstLeft}
+use Rattle.plan.specs.Places.{short}
+use Rattle.plan.specs.Next.{next-more, next-most, next-same, nextOf}
+use Rattle.plan.specs.Turns.{turns}
+use Rattle.plan.specs.Steps.{begin, room, finish, none-chosen, job-chosen, idle-less, idle-step, job-less, job-step, State}
+use Rattle.plan.proofs.Known.{sized, wide}
+use Rattle.plan.proofs.write_plan.Statement.{statement}
+use Rattle.plan.proofs.write_plan.Tie as tie
+
+abbrev Inv-loop : tie.InvT-loop
+Inv-loop b lengths plan₀ streams left₀ heads₀ pen₀ t₀ next₀ plan left heads pen t next =
+    State b t streams lengths (rowPlan b streams lengths left₀) plan₀ plan left pen
+    × ((heads ≡ map firstLeft left) × (t < next → next ≡ nextOf b t lengths))
+
+abbrev μ-loop : tie.MeasureT-loop
+μ-loop b lengths plan₀ streams left₀ heads₀ pen₀ t₀ next₀ plan left heads pen t next = turns b t (rowJobs streams lengths left)
+
+-- the function's entry, from a turn of the loop
+abbrev entry : tie.At-loop Inv-loop μ-loop → tie.Start Inv-loop μ-loop
+entry l = l .before .before .before .before
+
+abbrev total : tie.Start Inv-loop μ-loop → List Run
+total z = rowPlan (z .args .b) (z .args .t2) (z .args .lengths) (z .args .needs)
+
+-- how long the arrays are
+streams-sized : (z : tie.Start Inv-loop μ-loop) → length (z .args .t2) ≡ 32
+streams-sized z = sized u32 32 (z .args .t2) _ (z .good .1 .0)
+
+lengths-sized : (z : tie.Start Inv-loop μ-loop) → length (z .args .lengths) ≡ 32
+lengths-sized z = sized u32 32 (z .args .lengths) _ (z .good .1 .1 .0)
+
+rows-sized : (z : tie.Start Inv-loop μ-loop) → (length (z .args .needs) ≡ 32) × Wide (z .args .needs)
+rows-sized z = (sized (Array u32 16) 32 (z .args .needs) _ (z .good .1 .1 .1 .0), wide 32 (z .args .needs) _ (z .good .1 .1 .1 .0))
+
+few : (z : tie.Start Inv-loop μ-loop) → length (total z) ≤ 992
+few z = plan-few (z .pre .0) (rows-sized z .0) (rows-sized z .1)
+
+-- the words lent are as many as they were, and there is room for a record more
+spare : (l : tie.At-loop Inv-loop μ-loop)
+    → (length (l .loop .plan) ≡ length (entry l .args .plan .now)) × (4 * l .loop .pen .count + 4 ≤ length (l .loop .plan))
+spare l = room (l .loop .inv .0) (few (entry l)) (entry l .pre .1)
+
+-- the next release is ahead
+coming : (w : tie.After-next-after Inv-loop μ-loop)
+    → (w .before .before .loop .t < w .next-after .result) × (w .next-after .result ≤ entry (w .before .before) .args .b)
+coming w =
+    let l = w .before .before in
+    let z = entry l in
+    omega (
+      arith,
+      w .next-after .ensures,
+      next-more (z .args .b) (l .loop .t) (w .before .loop-test .taken) (z .pre .0 .each),
+      next-most (z .args .b) (l .loop .t) (z .args .lengths),
+    )
+
+-- the turn of a job, its place and its number
+abbrev turn : tie.Then1 Inv-loop μ-loop → tie.At-loop Inv-loop μ-loop
+turn c = c .before .before .before .before
+
+abbrev place : tie.Then1 Inv-loop μ-loop → ℕ
+place c = c .before .choose-place .result
+
+abbrev number : tie.Then1 Inv-loop μ-loop → ℕ
+number c = getD (turn c .loop .heads) (place c) 0
+
+abbrev jobsAt : tie.At-loop Inv-loop μ-loop → List Job
+jobsAt l = rowJobs (entry l .args .t2) (entry l .args .lengths) (l .loop .left)
+
+-- it is the job chosen, and one of its row's sixteen
+chosen : (c : tie.Then1 Inv-loop μ-loop) → let l = turn c in
+    (choose (l .loop .t) (jobsAt l) ≡ some (jobIn (entry l .args .t2) (entry l .args .lengths) (l .loop .left) (place c) (number c)))
+    × (number c < 16)
+chosen c =
+    let l = turn c in
+    let z = entry l in
+    job-chosen (l .loop .inv .0) (streams-sized z) (lengths-sized z) (short (z .pre .0 .short) (z .pre .0 .each)) (l .loop .inv .1 .0)
+    (c .before .choose-place .ensures) (c .if1 .taken)
+
+-- what it needs, and how long it runs
+abbrev need : tie.Then1 Inv-loop μ-loop → ℕ
+need c = needAt (turn c .loop .left) (place c) (number c)
+
+abbrev job : tie.After-smaller Inv-loop μ-loop → tie.Then1 Inv-loop μ-loop
+job s = s .before .before
+
+ran : (s : tie.After-smaller Inv-loop μ-loop) → let l = turn (job s) in
+    (s .smaller .result ≡ min (need (job s)) (nextOf (entry l .args .b) (l .loop .t) (entry l .args .lengths) - l .loop .t))
+    × (l .loop .t + s .smaller .result ≤ job s .before .before .next-after .result)
+ran s =
+    let l = turn (job s) in
+    let w = job s .before .before in
+    let e : s .smaller .result ≡ min (need (job s)) (w .next-after .result - l .loop .t) = s .smaller .ensures in
+    (e ∙ ap (λ m. min (need (job s)) (m - l .loop .t)) (w .next-after .ensures), omega (arith, coming w))
+
+abbrev run : tie.After-slice-known2 Inv-loop μ-loop → tie.After-smaller Inv-loop μ-loop
+run c = c .before .before .before .before .before .before
+
+-- no job is chosen
+idle : (c : tie.Else1 Inv-loop μ-loop) → let l = c .before .before .before .before in choose (l .loop .t) (jobsAt l) ≡ none
+idle c =
+    let l = c .before .before .before .before in
+    let z = entry l in
+    none-chosen (l .loop .inv .0) (streams-sized z) (lengths-sized z) (short (z .pre .0 .short) (z .pre .0 .each)) (l .loop .inv .1 .0)
+    (c .before .choose-place .ensures) (c .if1 .left)
+
+first-jobs-requires : tie.Need-first-jobs-requires Inv-loop μ-loop
+first-jobs-requires c κs = search needs
+
+blank-pen-requires : tie.Need-blank-pen-requires Inv-loop μ-loop
+blank-pen-requires c κs = search needs
+
+loop-holds : tie.Need-loop-holds Inv-loop μ-loop
+loop-holds c =
+    let z = c .before .before .before in
+    let a = z .args in
+    let s = begin (a .plan .now) (z .pre .0) (rows-sized z .0) (rows-sized z .1) in (
+      subst (State (a .b) 0 (a .t2) (a .lengths) (total z) (a .plan .now) (a .plan .now) (a .needs)) (sym (c .blank-pen .ensures)) s,
+      (c .before .first-jobs .ensures, λ h. absurd (omega arith)),
+    )
+
+next-after-requires : tie.Need-next-after-requires Inv-loop μ-loop
+next-after-requires c κs =
+    let z = entry (c .before) in
+    (c .loop-test .taken, (z .pre .0 .short, (z .pre .0 .each, c .before .loop .inv .1 .1)))
+
+choose-place-requires : tie.Need-choose-place-requires Inv-loop μ-loop
+choose-place-requires c κs =
+    let z = entry (c .before .before) in
+    short (z .pre .0 .short) (z .pre .0 .each)
+
+mul-j : tie.Need-mul-j Inv-loop μ-loop
+mul-j c = search needs
+
+array-read-j : tie.Need-array-read-j Inv-loop μ-loop
+array-read-j c = search needs
+
+mul-need : tie.Need-mul-need Inv-loop μ-loop
+mul-need c = search needs
+
+mul-need-2 : tie.Need-mul-need-2 Inv-loop μ-loop
+mul-need-2 c = record { fits = omega (arith, chosen c .1) }
+
+index-1-need : tie.Need-index-1-need Inv-loop μ-loop
+index-1-need c = search needs
+
+index-2-need : tie.Need-index-2-need Inv-loop μ-loop
+index-2-need c = chosen c .1
+
+sub-smaller : tie.Need-sub-smaller Inv-loop μ-loop
+sub-smaller c = omega (arith, coming (c .before .before .before))
+
+smaller-requires : tie.Need-smaller-requires Inv-loop μ-loop
+smaller-requires c κs = search needs
+
+sub-left : tie.Need-sub-left Inv-loop μ-loop
+sub-left c = omega (arith, ran c .0)
+
+mul-left : tie.Need-mul-left Inv-loop μ-loop
+mul-left c = search needs
+
+mul-left-2 : tie.Need-mul-left-2 Inv-loop μ-loop
+mul-left-2 c = record { fits = omega (arith, chosen (job c) .1) }
+
+index-1-left : tie.Need-index-1-left Inv-loop μ-loop
+index-1-left c = search needs
+
+index-2-left : tie.Need-index-2-left Inv-loop μ-loop
+index-2-left c = chosen (job c) .1
+
+mul-row : tie.Need-mul-row Inv-loop μ-loop
+mul-row c = search needs
+
+array-copy-out-row : tie.Need-array-copy-out-row Inv-loop μ-loop
+array-copy-out-row c = search needs
+
+first-left-requires : tie.Need-first-left-requires Inv-loop μ-loop
+first-left-requires c κs = search needs
+
+mul-heads : tie.Need-mul-heads Inv-loop μ-loop
+mul-heads c = search needs
+
+array-write-heads : tie.Need-array-write-heads Inv-loop μ-loop
+array-write-heads c = search needs
+
+mul-extend-run : tie.Need-mul-extend-run Inv-loop μ-loop
+mul-extend-run c = search needs
+
+array-read-extend-run : tie.Need-array-read-extend-run Inv-loop μ-loop
+array-read-extend-run c = search needs
+
+cast-extend-run : tie.Need-cast-extend-run Inv-loop μ-loop
+cast-extend-run c = record { fits = omega (arith, chosen (job (c .before .before .before)) .1) }
+
+extend-run-requires : tie.Need-extend-run-requires Inv-loop μ-loop
+extend-run-requires c κs =
+    let s = c .before .before .before in
+    let l = turn (job s) in
+    (spare l .1, (l .loop .inv .0 .ended, omega (arith, ran s .1, coming (job s .before .before), entry l .pre .0 .short)))
+
+add-t : tie.Need-add-t Inv-loop μ-loop
+add-t c =
+    let s = run c in
+    let l = turn (job s) in
+    record { fits = omega (arith, ran s .1, coming (job s .before .before), entry l .pre .0 .short) }
+
+loop-less : tie.Need-loop-less Inv-loop μ-loop
+loop-less c =
+    let s = run c in
+    let o = job s in
+    let l = turn o in
+    let z = entry l in
+    job-less (l .loop .inv .0) (streams-sized z) (lengths-sized z) (o .before .before .before .loop-test .taken) (z .pre .0 .each)
+    (place o) (number o) (s .smaller .result) (ran s .0) (o .if1 .taken) (chosen o .1) (chosen o .0)
+
+loop-again : tie.Need-loop-again Inv-loop μ-loop
+loop-again c =
+    let s = run c in
+    let o = job s in
+    let l = turn o in
+    let z = entry l in
+    let a = z .args in
+    let m = o .before .before .next-after .ensures in
+    let t = l .loop .t in
+    let n = s .smaller .result in
+    let row = set (getD (l .loop .left) (place o) []) (number o) (need o - n) in
+    let r : place o < length (l .loop .left) = omega (arith, o .if1 .taken, l .loop .inv .0 .rows) in
+    let head = c .before .before .before .before .first-left .ensures ∙ ap firstLeft (getD-set-same (l .loop .left) (place o) row [] r) in
+    let wrote = c .before .before .extend-run .ensures in (
+      job-step (l .loop .inv .0) (streams-sized z) (lengths-sized z) (o .before .before .before .loop-test .taken) (z .pre .0 .each)
+          (place o) (number o) n (ran s .0) (o .if1 .taken) (chosen o .1) (chosen o .0) (wrote .1) (wrote .0),
+      (
+        ap (set (l .loop .heads) (place o)) head
+            ∙ ap (λ hs. set hs (place o) (firstLeft row)) (l .loop .inv .1 .0)
+            ∙ sym (heads-set (l .loop .left) (place o) row),
+        λ h. m ∙ next-same (a .b) t (t + n) (a .lengths) (omega arith) (omega (arith, h, m)),
+      ),
+    )
+
+loop-less-2 : tie.Need-loop-less-2 Inv-loop μ-loop
+loop-less-2 c =
+    let w = c .before .before in
+    let l = w .before .before in
+    let z = entry l in
+    subst (λ m. turns (z .args .b) m (jobsAt l) < turns (z .args .b) (l .loop .t) (jobsAt l)) (sym (w .next-after .ensures))
+    (idle-less (l .loop .inv .0) (streams-sized z) (lengths-sized z) (w .before .loop-test .taken) (z .pre .0 .each))
+
+loop-again-2 : tie.Need-loop-again-2 Inv-loop μ-loop
+loop-again-2 c =
+    let w = c .before .before in
+    let l = w .before .before in
+    let z = entry l in
+    let a = z .args in (
+      subst (λ m. State (a .b) m (a .t2) (a .lengths) (total z) (a .plan .now) (l .loop .plan) (l .loop .left) (l .loop .pen))
+          (sym (w .next-after .ensures))
+          (idle-step (l .loop .inv .0) (streams-sized z) (lengths-sized z) (w .before .loop-test .taken) (z .pre .0 .each) (idle c)),
+      (l .loop .inv .1 .0, λ h. absurd (omega arith)),
+    )
+
+put-run-requires : tie.Need-put-run-requires Inv-loop μ-loop
+put-run-requires c κs = spare (c .before .before) .1
+
+same-length : tie.Need-same-length Inv-loop μ-loop
+same-length c = c .before .before .put-run .kept .1 .0 ∙ spare (c .before .before .before .before .before) .0
+
+returns : tie.Need-returns Inv-loop μ-loop
+returns c =
+    let p = c .before .before in
+    let l = p .before .before .before in
+    let f = finish (l .loop .inv .0) (p .before .before .loop-test .left) in
+    let e = p .put-run .ensures in
+    (e .0 ∙ f .0, (omega (arith, e .0, f .0, few (entry l)), e .1 ∙ f .1 ∙ rw (e .0)))
+
+pub write-plan-spec : {M : Type 1} → statement M
+write-plan-spec =
+    tie.close
+    (tie.spec
+    Inv-loop
+    μ-loop
+    first-jobs-requires
+    blank-pen-requires
+    loop-holds
+    next-after-requires
+    choose-place-requires
+    mul-j
+    array-read-j
+    mul-need
+    mul-need-2
+    index-1-need
+    index-2-need
+    sub-smaller
+    smaller-requires
+    sub-left
+    mul-left
+    mul-left-2
+    index-1-left
+    index-2-left
+    mul-row
+    array-copy-out-row
+    first-left-requires
+    mul-heads
+    array-write-heads
+    mul-extend-run
+    array-read-extend-run
+    cast-extend-run
+    extend-run-requires
+    add-t
+    loop-less
+    loop-again
+    loop-less-2
+    loop-again-2
+    put-run-requires
+    same-length
+    returns)

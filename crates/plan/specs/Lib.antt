@@ -1,0 +1,9 @@
+pub mod Rows
+pub mod Skipped
+pub mod RowLaws
+pub mod Heads
+pub mod Places
+pub mod Next
+pub mod Turns
+pub mod Pens
+pub mod Steps

@@ -1,0 +1,225 @@
+// The slot plan of one interval, by events: at time t the job chosen runs to the nearer of its end and the next release. So the work
+// grows with the jobs and not with the slots. Rows stand in the order of the tie rules, one for each stream; job j of row i is
+// released at j times its length. Of a row only the first unfinished job matters, so heads has its number. A turn ends a job, or comes to
+// a release or to the end: there are at most 993 of them (specs/Turns.antt).
+ghost use mathlib.Core.Path.{_≡_};
+ghost use mathlib.Core.List.{[], _∷_, _++_, map};
+ghost use Prim.Native.Nat.{_+_, _*_, _≤_, _<_, min};
+ghost use lib.ListN.{length, drop};
+ghost use Rattle.lists.specs.All.{All};
+ghost use Rattle.rules.specs.Slots.{run};
+ghost use Rattle.rules.specs.Calls.{wordsOf};
+ghost use Rattle.plan.specs.Rows.{Length, Rows, rowPlan};
+ghost use Rattle.plan.specs.Heads.{firstLeft};
+ghost use Rattle.plan.specs.Next.{nextOf};
+ghost use Rattle.plan.specs.Places.{Short, dueBy, chosenAt};
+ghost use Rattle.plan.specs.Pens.{blank, named, openRun, written, grows, closed, extended};
+
+// Later than any job of an interval is due.
+const NEVER: u32 = 4294967295;
+
+// How many records are written, and the run that may still grow: none where its length is 0.
+struct Pen {
+    count: usize,
+    stream: u32,
+    job: u32,
+    start: u32,
+    length: u32,
+}
+
+fn smaller(a: u32, b: u32) -> u32
+    ensures { λ r. ⌜ r ≡ min a b ⌝ }
+{
+    if a <= b { a } else { b }
+}
+
+// The first release after t of any row's jobs; at most b, the end.
+fn next_release(b: u32, lengths: [u32; 32], t: u32) -> u32
+    requires { ⌜ (t < b) × ((b ≤ 1024000) × All (Length b) lengths) ⌝ }
+    ensures { λ r. ⌜ r ≡ nextOf b t lengths ⌝ }
+{
+    let mut next = b;
+    for i in 0..32 {
+        let length = lengths[i];
+        let release = (t / length + 1) * length;
+        next = smaller(next, release);
+    }
+    next
+}
+
+// The same; the one found last still is the next while it is ahead, so that it is looked for only where one has come.
+fn next_after(b: u32, lengths: [u32; 32], t: u32, next: u32) -> u32
+    requires { ⌜ (t < b) × ((b ≤ 1024000) × (All (Length b) lengths × (t < next → next ≡ nextOf b t lengths))) ⌝ }
+    ensures { λ r. ⌜ r ≡ nextOf b t lengths ⌝ }
+{
+    if t < next {
+        return next;
+    }
+    next_release(b, lengths, t)
+}
+
+// The number of a row's first unfinished job; 16 where there is none.
+fn first_left(row: [u32; 16]) -> usize
+    ensures { λ r. ⌜ r ≡ firstLeft row ⌝ }
+{
+    for j in 0..16 {
+        if 0 < row[j] {
+            return j;
+        }
+    }
+    16
+}
+
+fn first_jobs(needs: [[u32; 16]; 32]) -> [usize; 32]
+    ensures { λ r. ⌜ r ≡ map firstLeft needs ⌝ }
+{
+    let mut heads = [0usize; 32];
+    for i in 0..32 {
+        let row = needs[i];
+        let head = first_left(row);
+        heads[i] = head;
+    }
+    heads
+}
+
+// When a row's first unfinished job is due, if it is released by t.
+fn due_by(t: u32, length: u32, job: usize) -> u32
+    requires { ⌜ length ≤ 1024000 ⌝ }
+    ensures { λ r. ⌜ r ≡ dueBy t length job ⌝ }
+{
+    if 16 <= job {
+        return NEVER;
+    }
+    let release = (job as u32) * length;
+    if t < release {
+        return NEVER;
+    }
+    release + length
+}
+
+// The place of the job that slot t goes to: of those due first the first; 32 where the slot is idle.
+fn choose_place(t: u32, lengths: [u32; 32], heads: [usize; 32]) -> usize
+    requires { ⌜ Short lengths ⌝ }
+    ensures { λ r. ⌜ r ≡ chosenAt t lengths heads ⌝ }
+{
+    let mut place: usize = 32;
+    let mut due = NEVER;
+    for i in 0..32 {
+        let d = due_by(t, lengths[i], heads[i]);
+        if d < due {
+            place = i;
+            due = d;
+        }
+    }
+    place
+}
+
+// A record of four words.
+fn write_record(plan: &mut [u32], n: usize, stream: u32, job: u32, start: u32, length: u32)
+    requires { ⌜ 4 * n + 4 ≤ lib.ListN.length (now plan) ⌝ }
+    ensures { λ _. ⌜ now (plan .exit) ≡ written n (run (named stream job) start length ∷ []) (now (plan .entry)) ⌝ }
+{
+    let at = 4 * n;
+    plan[at] = stream;
+    plan[at + 1] = job;
+    plan[at + 2] = start;
+    plan[at + 3] = length;
+}
+
+// The run that may still grow is written; how many records there are then.
+fn put_run(pen: Pen, plan: &mut [u32]) -> usize
+    requires { ⌜ 4 * pen .count + 4 ≤ length (now plan) ⌝ }
+    ensures { λ r. ⌜ (r ≡ pen .count + length (openRun pen))
+        × (now (plan .exit) ≡ written (pen .count) (openRun pen) (now (plan .entry))) ⌝ }
+{
+    let count = pen.count;
+    if pen.length == 0 {
+        return count;
+    }
+    write_record(plan, count, pen.stream, pen.job, pen.start, pen.length);
+    count + 1
+}
+
+// The run goes on in slot t, where that is the job's.
+fn run_grows(pen: Pen, stream: u32, job: u32, t: u32) -> bool
+    requires { ⌜ pen .start + pen .length ≤ t ⌝ }
+    ensures { λ r. ⌜ r ≡ grows pen (named stream job) t ⌝ }
+{
+    if stream != pen.stream {
+        return false;
+    }
+    if job != pen.job {
+        return false;
+    }
+    t == pen.start + pen.length
+}
+
+// n slots from t on go to a job: the run grows, or it is written and another begins.
+fn extend_run(pen: Pen, plan: &mut [u32], stream: u32, job: u32, t: u32, n: u32) -> Pen
+    requires { ⌜ (4 * pen .count + 4 ≤ length (now plan)) × ((pen .start + pen .length ≤ t) × (t + n ≤ 1024000)) ⌝ }
+    ensures { λ r. ⌜ (r ≡ extended pen (named stream job) t n)
+        × (now (plan .exit) ≡ written (pen .count) (closed pen (named stream job) t) (now (plan .entry))) ⌝ }
+{
+    if run_grows(pen, stream, job, t) {
+        let mut grown = pen;
+        grown.length = pen.length + n;
+        return grown;
+    }
+    let count = put_run(pen, plan);
+    Pen {
+        count,
+        stream,
+        job,
+        start: t,
+        length: n,
+    }
+}
+
+// No record yet, and no run.
+fn blank_pen() -> Pen
+    ensures { λ r. ⌜ r ≡ blank ⌝ }
+{
+    Pen {
+        count: 0,
+        stream: 0,
+        job: 0,
+        start: 0,
+        length: 0,
+    }
+}
+
+// The records of the plan in the first words, and how many there are. Every later word stays as it was.
+pub fn write_plan(
+    b: u32,
+    streams: [u32; 32],
+    lengths: [u32; 32],
+    needs: [[u32; 16]; 32],
+    plan: &mut [u32],
+) -> usize
+    requires { ⌜ Rows b streams lengths needs × (4096 ≤ length (now plan)) ⌝ }
+    ensures { λ r. ⌜ (r ≡ length (rowPlan b streams lengths needs)) × ((r ≤ 1024)
+        × (now (plan .exit) ≡ wordsOf (rowPlan b streams lengths needs) ++ drop (4 * r) (now (plan .entry)))) ⌝ }
+{
+    let mut left = needs;
+    let mut heads = first_jobs(needs);
+    let mut pen = blank_pen();
+    let mut t: u32 = 0;
+    let mut next: u32 = 0;
+    while t < b {
+        next = next_after(b, lengths, t, next);
+        let i = choose_place(t, lengths, heads);
+        if i < 32 {
+            let j = heads[i];
+            let need = left[i][j];
+            let n = smaller(need, next - t);
+            left[i][j] = need - n;
+            let row = left[i];
+            heads[i] = first_left(row);
+            pen = extend_run(pen, plan, streams[i], j as u32, t, n);
+            t = t + n;
+        } else {
+            t = next;
+        }
+    }
+    put_run(pen, plan)
+}
