@@ -1,0 +1,114 @@
+-- The rows of a table's entries in the tie order have the table's jobs, and beside them jobs that need nothing: so their plan is the
+-- table's. Assumes nothing.
+use mathlib.Core.Path.{_≡_, refl, sym, ap, subst, subst₂}
+use mathlib.Core.List.{List, [], _∷_, _++_, map}
+use Prim.Native.Nat.{ℕ, zero, suc, _-_, _≤_}
+use native.Mathlib.Omega.{arith}
+use lib.ListN.{length, replicate}
+use Rattle.lists.specs.Lists.{sumOf, concatMap}
+use Rattle.lists.specs.All.{All, stop, and, all-map, all-of-map}
+use Rattle.lists.specs.Sums.{sum-keep-le}
+use Rattle.model.specs.Entries.{freeEntry, isHeld}
+use Rattle.model.specs.declared.Entry.{Entry}
+use Rattle.model.specs.declared.Table.{Table}
+use Rattle.rules.specs.Share.{Grant, jobCount, stepB, stepC}
+use Rattle.rules.specs.Slots.{Job, jobsFrom, jobsOf, jobNeed, jobLength, jobs, tieOrder, stepD, stepE}
+use Rattle.rules.specs.Calls.{places, heldOf, planOf}
+use Rattle.laws.specs.Places.{Tidy, tidy-held}
+use Rattle.laws.specs.Closed.{slots-most}
+use Rattle.ahead.specs.Tables.{tidy-together}
+use Rattle.interval.specs.Jobs.{tie-sum, all-tie, jobs-keys}
+use Rattle.share.specs.Shares.{sharingOf, grantOf, grants-right}
+use Rattle.share.specs.declared.Sharing.{Sharing}
+use Rattle.order.specs.Filled.{filled, filled-behind, filled-all}
+use Rattle.plan.specs.Rows.{rowFrom, rowJobs, rowPlan, Rows}
+use Rattle.plan.specs.RowLaws.{row-skipped, plan-skipped}
+use Rattle.plan.specs.Skipped.{Skipped, over, skipped-append, skipped-names}
+use Rattle.jobs.specs.Needs.{needBy, needsRow, rowBy, Narrow}
+use Rattle.jobs.specs.Limits.{narrow-free, narrow-held, free-none, length-free, length-held}
+
+module _ (B : ℕ) (s : Sharing) (ps : List Entry) where
+  abbrev rowsOf : List Entry → List Job
+  rowsOf os = rowJobs (map (λ e. e .stream) os) (map (jobLength B) os) (map (rowBy s ps) os)
+
+  -- free places at the end
+  free-skipped : (n : ℕ) → needBy (grantOf s ps freeEntry) freeEntry ≡ 0 → Skipped (rowsOf (replicate n freeEntry)) []
+  unfolding rowJobs jobsFrom
+  free-skipped zero z = over
+  free-skipped (suc n) z =
+      skipped-append (subst (λ v. Skipped (rowFrom 0 B 0 (needsRow 1 v)) []) (sym z) (row-skipped 0 16 0 B 0 0)) (free-skipped n z)
+
+  rows-skipped : (bs cs : List Grant) (n : ℕ) → needBy (grantOf s ps freeEntry) freeEntry ≡ 0
+      → {os : List Entry} → All (λ e. needBy (grantOf s ps e) e ≡ jobNeed bs cs e) os
+      → Skipped (rowsOf (os ++ replicate n freeEntry)) (concatMap (jobsOf B bs cs) os)
+  unfolding rowJobs
+  rows-skipped bs cs n z stop = free-skipped n z
+  rows-skipped bs cs n z (and {x = e} q h) =
+      skipped-append
+      (subst (λ v. Skipped (rowFrom (e .stream) (jobLength B e) 0 (needsRow (jobCount e) v)) (jobsOf B bs cs e)) (sym q)
+      (row-skipped (jobCount e) (16 - jobCount e) (e .stream) (jobLength B e) (jobNeed bs cs e) 0))
+      (rows-skipped bs cs n z h)
+
+-- ---- a table's rows
+module _ (t : Table) (w : Tidy t) where
+  abbrev B : ℕ
+  B = t .interval .0
+
+  abbrev es : List Entry
+  es = heldOf t
+
+  abbrev os : List Entry
+  os = filled (tieOrder es)
+
+  abbrev sh : Sharing
+  sh = sharingOf t
+
+  narrow-all : All (Narrow sh (t .entries)) os
+  narrow-all = filled-all (Narrow sh (t .entries)) (narrow-free t w) (all-tie (tidy-held w) (narrow-held t w))
+
+  -- all entries have a place
+  length-sum : {A : Type 0} (xs : List A) → length xs ≡ sumOf (λ x. 1) xs
+  length-sum [] = refl
+  length-sum (x ∷ xs) = omega (arith, length-sum xs)
+
+  tie-few : length (tieOrder es) ≤ places
+  tie-few =
+      omega (
+        arith,
+        length-sum (tieOrder es),
+        tie-sum (tidy-held w) (λ e. 1),
+        sum-keep-le (λ (e : Entry). 1) isHeld (t .entries),
+        length-sum (t .entries),
+        w .size,
+      )
+
+  own-needs : All (λ e. needBy (grantOf sh (t .entries) e) e ≡ jobNeed (stepB B es) (stepC B es) e) (tieOrder es)
+  own-needs = all-tie (tidy-held w) (all-map (λ e q. ap (λ g. needBy g e) q) (grants-right t w))
+
+  table-skipped : Skipped (rowsOf B sh (t .entries) os) (jobs B es)
+  unfolding jobs
+  table-skipped =
+      subst (λ l. Skipped (rowsOf B sh (t .entries) l) (jobs B es)) (sym (filled-behind (tieOrder es) tie-few))
+      (rows-skipped B sh (t .entries) (stepB B es) (stepC B es) (places - length (tieOrder es)) (free-none t w) own-needs)
+
+  rows-fit : Rows B (map (λ (e : Entry). e .stream) os) (map (jobLength B) os) (map (rowBy sh (t .entries)) os)
+  rows-fit =
+      record {
+        short = slots-most t w;
+        each = all-of-map (jobLength B) (filled-all _ (length-free t w) (all-tie (tidy-held w) (length-held t w)));
+        names = skipped-names table-skipped (jobs-keys (tidy-together w));
+      }
+
+  rows-plan : rowPlan B (map (λ (e : Entry). e .stream) os) (map (jobLength B) os) (map (rowBy sh (t .entries)) os) ≡ planOf t
+  unfolding planOf stepE stepD
+  rows-plan = plan-skipped B _ _ _ table-skipped
+
+-- ---- rows that a program has made
+module _ (t : Table) (w : Tidy t) {s : Sharing} {os : List Entry} (e : s ≡ sharingOf t) (o : os ≡ filled (tieOrder (heldOf t))) where
+  pub narrow-made : All (Narrow s (t .entries)) os
+  narrow-made = subst₂ (λ x l. All (Narrow x (t .entries)) l) (sym e) (sym o) (narrow-all t w)
+
+  pub plan-made : {ss Ts : List ℕ} {nss : List (List ℕ)} → ss ≡ map (λ (f : Entry). f .stream) os
+      → Ts ≡ map (jobLength (t .interval .0)) os → nss ≡ map (rowBy s (t .entries)) os
+      → Rows (t .interval .0) ss Ts nss × (rowPlan (t .interval .0) ss Ts nss ≡ planOf t)
+  plan-made a b d = rw (a, b, d, e, o) (rows-fit t w, rows-plan t w)

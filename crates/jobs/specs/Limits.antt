@@ -1,0 +1,134 @@
+-- How many jobs an entry of a table has, how long they are and how much they need: they fit the rows. Assumes nothing.
+use mathlib.Core.Path.{_≡_, ap}
+use mathlib.Core.Bool.{Bool, cond}
+use Prim.Native.Nat.{ℕ, _+_, _*_, _/_, _≤_}
+use native.Mathlib.Nat.{le-refl, mul-le-mul-left, mul-le-mul-right}
+use native.Mathlib.Omega.{arith}
+use borrow.Author.Tests.{eq-eqb}
+use Rattle.lists.specs.Tests.{within-both}
+use Rattle.lists.specs.All.{All, all-keep}
+use Rattle.model.specs.Entries.{freeEntry, isHeld, isKind}
+use Rattle.model.specs.declared.Entry.{Entry}
+use Rattle.model.specs.declared.Table.{Table}
+use Rattle.rules.specs.Share.{capacity, headroom, jobCount, remains, stepB, weight}
+use Rattle.rules.specs.Slots.{jobLength}
+use Rattle.rules.specs.Calls.{heldOf}
+use Rattle.laws.specs.Held.{Fraction, Piece, not-fraction}
+use Rattle.laws.specs.Extras.{extra-le}
+use Rattle.laws.specs.Settled.{headroom-fraction, headroom-whole, headroom-transfer}
+use Rattle.laws.specs.Places.{Tidy}
+use Rattle.laws.specs.Closed.{takes-owed, takes-most, slots-most, by-kind}
+use Rattle.share.specs.Shares.{sharingOf, grantOf}
+use Rattle.share.specs.declared.Sharing.{Sharing}
+use Rattle.plan.specs.Rows.{Length}
+use Rattle.jobs.specs.Needs.{needBy, Narrow}
+
+module _ (t : Table) (w : Tidy t) where
+  abbrev B : ℕ
+  B = t .interval .0
+
+  abbrev sh : Sharing
+  sh = sharingOf t
+
+  -- what an entry takes of the interval, and its extra
+  abbrev piece : Entry → ℕ
+  piece e = grantOf sh (t .entries) e .piece .0
+
+  abbrev more : Entry → ℕ
+  more e = grantOf sh (t .entries) e .extra .0
+
+  more-le : (e : Entry) → more e ≤ headroom e (piece e)
+  more-le e = extra-le (remains B (heldOf t)) (weight (stepB B (heldOf t)) (heldOf t)) (headroom e (piece e))
+
+  piece-le : (e : Entry) → piece e ≤ B
+  piece-le e = omega (arith, takes-most (capacity B (heldOf t)) (t .entries) e)
+
+  -- a free place's one job needs nothing
+  pub free-none : needBy (grantOf sh (t .entries) freeEntry) freeEntry ≡ 0
+  free-none = omega (arith, more-le freeEntry, takes-owed (capacity B (heldOf t)) (t .entries) freeEntry)
+
+  pub narrow-free : Narrow sh (t .entries) freeEntry
+  narrow-free = record { few = omega arith; small = omega (arith, free-none) }
+
+  -- m parts are the whole, so one is at most the whole
+  part-le : (e : Entry) → Fraction B e → (B / e .parts) * 2 ≤ B
+  part-le e f = omega (arith, mul-le-mul-left (B / e .parts) (f .parts-least), f .whole)
+
+  -- what is needed, by the test of kind
+  need-by : (e : Entry) {b : Bool} → isKind 1 e ≡ b
+      → needBy (grantOf sh (t .entries) e) e ≡ cond b (e .min .0 + more e) (piece e + more e)
+  need-by e q = ap (λ b. cond b (e .min .0 + more e) (piece e + more e)) q
+
+  count-by : (e : Entry) {b : Bool} → isKind 1 e ≡ b → jobCount e ≡ cond b (e .parts) 1
+  count-by e q = ap (λ b. cond b (e .parts) 1) q
+
+  at-places : All (Narrow sh (t .entries)) (t .entries)
+  at-places = by-kind t w (Narrow sh (t .entries)) narrow-free fraction whole transfer
+    where
+      fraction : (e : Entry) → Fraction B e → Narrow sh (t .entries) e
+      fraction e f =
+          let q = eq-eqb (e .kind) 1 (f .kind) in
+          record {
+            few = omega (arith, count-by e q, f .parts-most);
+            small = omega (
+              arith,
+              need-by e q,
+              more-le e,
+              headroom-fraction e (piece e) (f .kind),
+              f .least,
+              f .most,
+              part-le e f,
+              slots-most t w,
+            );
+          }
+
+      whole : (e : Entry) → Piece B e → e .kind ≡ 2 → Narrow sh (t .entries) e
+      whole e p k =
+          let q = not-fraction e (p .kind) in
+          let period = mul-le-mul-right B (p .period-whole k) in
+          record {
+            few = omega (arith, count-by e q);
+            small = omega (
+              arith,
+              need-by e q,
+              piece-le e,
+              more-le e,
+              headroom-whole e (piece e) k,
+              p .most k,
+              period,
+              slots-most t w,
+            );
+          }
+
+      transfer : (e : Entry) → Piece B e → e .kind ≡ 3 → Narrow sh (t .entries) e
+      transfer e p k =
+          let q = not-fraction e (p .kind) in
+          record {
+            few = omega (arith, count-by e q);
+            small = omega (arith, need-by e q, piece-le e, more-le e, headroom-transfer e (piece e) k, slots-most t w);
+          }
+
+  pub narrow-held : All (Narrow sh (t .entries)) (heldOf t)
+  narrow-held = all-keep isHeld (λ e q n. n) at-places
+
+  -- ---- lengths
+  some-slots : 1 ≤ B
+  some-slots = (let u = within-both 1 1000 (w .units .0) (w .units .1) in omega (arith, w .units .2))
+
+  pub length-free : Length B (jobLength B freeEntry)
+  length-free = record { some = some-slots; most = le-refl B; few = omega arith }
+
+  pub length-held : All (λ e. Length B (jobLength B e)) (heldOf t)
+  length-held = all-keep isHeld (λ e q l. l) (by-kind t w (λ e. Length B (jobLength B e)) length-free fraction (λ e p k. one e p) (λ e p k. one e p))
+    where
+      fraction : (e : Entry) → Fraction B e → Length B (jobLength B e)
+      fraction e f =
+          rw (eq-eqb (e .kind) 1 (f .kind))
+          (record {
+            some = omega (arith, f .min-least, f .least, f .most);
+            most = omega (arith, part-le e f);
+            few = omega (arith, mul-le-mul-left (B / e .parts) (f .parts-most), f .whole);
+          })
+
+      one : (e : Entry) → Piece B e → Length B (jobLength B e)
+      one e p = rw (not-fraction e (p .kind)) length-free
