@@ -1,0 +1,40 @@
+use mathlib.Core.Path.{sym, _∙_}
+use borrow.Author.Tests.{not-true, not-false}
+use Rattle.lists.specs.Tests.{within-both}
+use Rattle.model.specs.Requests.{refusal}
+use Rattle.rules.specs.Calls.{openAnswer, opened}
+use borrow.Author.Needs.{needs}
+use Rattle.planner.proofs.open.Statement.{statement}
+use Rattle.planner.proofs.open.Tie as tie
+
+is-within-requires : tie.Need-is-within-requires
+is-within-requires c κs = search needs
+
+empty-table-requires : tie.Need-empty-table-requires
+empty-table-requires c κs = search needs
+
+returns : tie.Need-returns
+unfolding openAnswer refusal
+returns c = (let q = sym (c .before .before .is-within .ensures) ∙ not-true _ (c .before .if1 .taken) in (rw q, rw q (c .empty-table .ensures)))
+
+mul-empty-table : tie.Need-mul-empty-table
+mul-empty-table c =
+    search (needs, within-both 1 1000 (c .before .before .args .units) (sym (c .before .is-within .ensures) ∙ not-false _ (c .if1 .left)))
+
+empty-table-requires-2 : tie.Need-empty-table-requires-2
+empty-table-requires-2 c κs = search needs
+
+returns-2 : tie.Need-returns-2
+unfolding openAnswer refusal opened
+returns-2 c = (let q = sym (c .before .before .is-within .ensures) ∙ not-false _ (c .before .if1 .left) in (rw q, rw q (c .empty-table2 .ensures)))
+
+pub open-spec : {M : Type 1} → statement M
+open-spec =
+    tie.close
+    (tie.spec
+    is-within-requires
+    empty-table-requires
+    returns
+    mul-empty-table
+    empty-table-requires-2
+    returns-2)

@@ -1,0 +1,78 @@
+-- An offer's answer as a program finds it: the checks one after the other, and looking ahead at the table with the request in its
+-- place. Assumes nothing.
+use mathlib.Core.Path.{_≡_, sym, ap, _∙_}
+use mathlib.Core.Logic.{_≢_}
+use mathlib.Core.Bool.{Bool, true, false, cond, not}
+use mathlib.Core.List.{List, [], _∷_, _++_}
+use Prim.Native.Nat.{ℕ}
+use native.Mathlib.Decide.{ℕ-discrete}
+use native.Mathlib.Omega.{arith}
+use lib.Dec.{eqb}
+use borrow.Author.Tests.{eqb-true, eqb-false, eq-eqb, ne-eqb}
+use Rattle.model.specs.Requests.{Check, check, refusal, streamInRange, fieldChecks}
+use Rattle.model.specs.Answers.{fieldsAnswer}
+use Rattle.model.specs.Entries.{entryOf}
+use Rattle.model.specs.declared.Request.{Request}
+use Rattle.model.specs.declared.Table.{Table}
+use Rattle.rules.specs.Ahead.{fitsAhead}
+use Rattle.rules.specs.Calls.{heldOf, holds, offerAnswer, placed, offered}
+use Rattle.rules.specs.WellFormed.{WellFormed}
+use Rattle.laws.specs.Refusals.{refused-offer}
+use Rattle.laws.specs.Offers.{Numbered, refusal-none, none-refusal, refusal-stops, fields-numbered, offerChecksBut, isFull, fits}
+use Rattle.laws.specs.Offers.{offer-refused, offer-passed}
+use Rattle.laws.specs.Places.{Tidy}
+use Rattle.ahead.specs.Formed.{placed-tidy, placed-ahead}
+
+-- one list of checks, then another
+refusal-append : {m : ℕ} (cs ds : List Check) → Numbered m cs → refusal (cs ++ ds) ≡ cond (eqb (refusal cs) 0) (refusal ds) (refusal cs)
+refusal-append cs ds n =
+    elim (ℕ-discrete (refusal cs) 0) [
+      | yes z ↦ rw (eq-eqb (refusal cs) 0 z) (none-refusal (refusal-none cs n z) ds)
+      | no z ↦ rw (ne-eqb (refusal cs) 0 z) (refusal-stops cs ds z)
+    ]
+
+-- refusals 10 to 16
+pub but-last : (held full : Bool) (B : ℕ) (q : Request) → (let a = fieldsAnswer B q in
+    refusal (offerChecksBut held full B q)
+    ≡ cond (not (streamInRange (q .stream))) 10 (cond held 11 (cond (eqb a 0) (cond full 16 0) a)))
+unfolding refusal fieldsAnswer
+but-last held full B q =
+    ap (λ r. cond (not (streamInRange (q .stream))) 10 (cond held 11 r))
+    (refusal-append (fieldChecks B q) (check 16 full ∷ []) (fields-numbered B q))
+
+-- the table with the request in a free place
+abbrev pub withRequest : Table → Request → Table
+withRequest t q = record { interval = t .interval; entries = placed (entryOf q) (t .entries) }
+
+-- a is what the other checks answer
+module _ (t : Table) (w : WellFormed t) (q : Request) {a : ℕ}
+    (r : a ≡ refusal (offerChecksBut (holds t (q .stream)) (isFull t q) (t .interval .0) q))
+  where
+    pub refused-answer : eqb a 0 ≡ false → (a ≡ offerAnswer t q) × (t ≡ offered t q)
+    refused-answer h =
+        let n : a ≢ 0 = eqb-false a 0 h in
+        let e : a ≡ offerAnswer t q = r ∙ sym (offer-refused t q (λ z. n (r ∙ z))) in
+        (e, sym (refused-offer t q (λ z. n (e ∙ z))))
+
+    module _ (h : eqb a 0 ≡ true) where
+      none : refusal (offerChecksBut (holds t (q .stream)) (isFull t q) (t .interval .0) q) ≡ 0
+      none = sym r ∙ eqb-true a 0 h
+
+      pub request-tidy : Tidy (withRequest t q)
+      request-tidy = placed-tidy t w q none
+
+      ahead : {b : Bool} → b ≡ fitsAhead (t .interval .0) (heldOf (withRequest t q)) → fits t q ≡ b
+      ahead e = sym (e ∙ placed-ahead t w q none)
+
+      pub fits-answer : {b : Bool} → b ≡ fitsAhead (t .interval .0) (heldOf (withRequest t q)) → b ≡ true
+          → (a ≡ offerAnswer t q) × (withRequest t q ≡ offered t q)
+      unfolding offered
+      fits-answer e k =
+          let z : offerAnswer t q ≡ 0 = offer-passed t q none ∙ ap (λ (b : Bool). cond (not b) 17 0) (ahead e ∙ k) in
+          (eqb-true a 0 h ∙ sym z, sym (ap (λ b. cond b (withRequest t q) t) (eq-eqb (offerAnswer t q) 0 z)))
+
+      pub no-time : {b : Bool} → b ≡ fitsAhead (t .interval .0) (heldOf (withRequest t q)) → b ≡ false
+          → (17 ≡ offerAnswer t q) × (t ≡ offered t q)
+      no-time e k =
+          let z : offerAnswer t q ≡ 17 = offer-passed t q none ∙ ap (λ (b : Bool). cond (not b) 17 0) (ahead e ∙ k) in
+          (sym z, sym (refused-offer t q (λ y. absurd (omega arith))))

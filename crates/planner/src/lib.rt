@@ -1,0 +1,243 @@
+// The planner's calls: document 01, "Where each refusal is checked" and "Reading, lending, printing". A call takes the table by value
+// and gives back the table after it; refused, the same table. Each contract is an equation with the definitions that the histories of
+// the guarantee are made of.
+ghost use mathlib.Core.Bool.{cond};
+ghost use mathlib.Core.Path.{_≡_};
+ghost use lib.Dec.{eqb};
+ghost use Rattle.model.specs.Requests.{refusal};
+ghost use Rattle.model.specs.Answers.{offerNumber};
+ghost use Rattle.model.specs.Entries.{entryOf};
+ghost use Rattle.rules.specs.Calls.{openAnswer, opened, holds, offerAnswer, offered, heldAnswer, withdrawn, beacon};
+ghost use Rattle.rules.specs.Reading.{enquired};
+ghost use Rattle.rules.specs.WellFormed.{WellFormed};
+ghost use Rattle.laws.specs.Offers.{offerChecksBut, isFull};
+ghost use Rattle.planner.specs.Numbers.{openNumber, heldNumber, beaconNumber, request, noneHeld, noTable};
+use model::Entry;
+use model::Intervals;
+use model::OfferAnswer;
+use model::Request;
+use model::Slots;
+use model::Table;
+
+pub enum OpenAnswer {
+    Opened,
+    UnitsOutside,
+}
+
+pub enum HeldAnswer {
+    Held,
+    NotHeld,
+}
+
+pub enum BeaconAnswer {
+    Planned,
+    PlanTooShort,
+}
+
+// ---- opening
+pub struct Opening {
+    pub answer: OpenAnswer,
+    pub table: Table,
+}
+
+// No place is held. With 0 slots it stands for no table.
+fn empty_table(interval: u32) -> Table
+    ensures { λ r. ⌜ r ≡ noneHeld interval ⌝ }
+{
+    let free = model::free_entry();
+    Table {
+        interval: Slots(interval),
+        entries: [free; 32],
+    }
+}
+
+// Refused, there is no table: what stands in its place has 0 slots, and no call is to be made on it.
+pub fn open(units: u32) -> Opening
+    ensures { λ r. ⌜ (openNumber (r .answer) ≡ openAnswer units) × (r .table ≡ cond (eqb (openAnswer units) 0) (opened units) noTable) ⌝ }
+{
+    if !model::is_within(1, 1000, units) {
+        return Opening {
+            answer: OpenAnswer::UnitsOutside,
+            table: empty_table(0),
+        };
+    }
+    Opening {
+        answer: OpenAnswer::Opened,
+        table: empty_table(1024 * units),
+    }
+}
+
+// ---- an offer
+pub struct Offering {
+    pub answer: OfferAnswer,
+    pub table: Table,
+}
+
+fn is_accepted(answer: OfferAnswer) -> bool
+    ensures { λ r. ⌜ r ≡ eqb (offerNumber answer) 0 ⌝ }
+{
+    match answer {
+        OfferAnswer::Accepted => true,
+        _ => false,
+    }
+}
+
+// What a request becomes on acceptance.
+fn entry_of(q: Request) -> Entry
+    ensures { λ r. ⌜ r ≡ entryOf q ⌝ }
+{
+    let kind = q.kind;
+    let mut e = Entry {
+        stream: q.stream,
+        kind,
+        parts: q.period,
+        period: Intervals(0),
+        min: Slots(q.min),
+        max: Slots(q.max),
+        life: Intervals(q.life),
+        life_left: Intervals(q.life),
+        owed: Slots(0),
+        given: Slots(0),
+        left: Intervals(0),
+    };
+    if kind != 1 {
+        e.parts = 0;
+        e.period.0 = q.period;
+        e.owed.0 = q.min;
+        e.left.0 = q.period;
+    }
+    e
+}
+
+// The first of refusals 10 to 16 that applies, or Accepted where none does.
+fn first_refusal(t: Table, q: Request) -> OfferAnswer
+    ensures { λ r. ⌜ offerNumber r ≡ refusal (offerChecksBut (holds t (q .stream)) (isFull t q) (t .interval .0) q) ⌝ }
+{
+    if !q.stream_in_range() {
+        return OfferAnswer::StreamOutside;
+    }
+    if advance::places::is_taken(t, q.stream) {
+        return OfferAnswer::StreamHeld;
+    }
+    let fields = q.check_fields(t.interval);
+    if !is_accepted(fields) {
+        return fields;
+    }
+    if 32 <= advance::places::count_held(t) {
+        return OfferAnswer::TableFull;
+    }
+    OfferAnswer::Accepted
+}
+
+pub fn offer(
+    t: Table,
+    stream: u32,
+    kind: u32,
+    period: u32,
+    min: u32,
+    max: u32,
+    life: u32,
+) -> Offering
+    requires { ⌜ WellFormed t ⌝ }
+    ensures { λ r. let q = request stream kind period min max life in
+        ⌜ (offerNumber (r .answer) ≡ offerAnswer t q) × (r .table ≡ offered t q) ⌝ }
+{
+    let q = Request {
+        stream,
+        kind,
+        period,
+        min,
+        max,
+        life,
+    };
+    let answer = first_refusal(t, q);
+    if !is_accepted(answer) {
+        return Offering { answer, table: t };
+    }
+    let next = advance::places::placed(t, entry_of(q));
+    if lookahead::fits_ahead(next) {
+        return Offering {
+            answer,
+            table: next,
+        };
+    }
+    Offering {
+        answer: OfferAnswer::NoTime,
+        table: t,
+    }
+}
+
+// ---- a withdrawal
+pub struct Withdrawal {
+    pub answer: HeldAnswer,
+    pub table: Table,
+}
+
+pub fn withdraw(t: Table, stream: u32) -> Withdrawal
+    requires { ⌜ WellFormed t ⌝ }
+    ensures { λ r. ⌜ (heldNumber (r .answer) ≡ heldAnswer t stream) × (r .table ≡ withdrawn t stream) ⌝ }
+{
+    if advance::places::is_taken(t, stream) {
+        return Withdrawal {
+            answer: HeldAnswer::Held,
+            table: advance::places::without(t, stream),
+        };
+    }
+    Withdrawal {
+        answer: HeldAnswer::NotHeld,
+        table: t,
+    }
+}
+
+// ---- an enquiry
+pub struct Enquiry {
+    pub answer: HeldAnswer,
+    pub entry: Entry,
+}
+
+pub fn enquire(t: Table, stream: u32) -> Enquiry
+    requires { ⌜ WellFormed t ⌝ }
+    ensures { λ r. ⌜ (heldNumber (r .answer) ≡ heldAnswer t stream) × (r .entry ≡ enquired t stream) ⌝ }
+{
+    let entry = advance::places::entry_for(t, stream);
+    if advance::places::is_taken(t, stream) {
+        return Enquiry {
+            answer: HeldAnswer::Held,
+            entry,
+        };
+    }
+    Enquiry {
+        answer: HeldAnswer::NotHeld,
+        entry,
+    }
+}
+
+// ---- a beacon
+pub struct Beaconing {
+    pub answer: BeaconAnswer,
+    pub count: usize,
+    pub table: Table,
+}
+
+// The plan stands in the first 4 times count words; every later word stays as it was. Refused, every word does.
+pub fn beacon(t: Table, plan: &mut [u32]) -> Beaconing
+    requires { ⌜ WellFormed t ⌝ }
+    ensures { λ r. let b = beacon t (now (plan .entry)) in
+        ⌜ (beaconNumber (r .answer) ≡ b .answer) × ((r .count ≡ b .count) × ((r .table ≡ b .table) × (now (plan .exit) ≡ b .words))) ⌝ }
+{
+    if plan.len() < 4096 {
+        return Beaconing {
+            answer: BeaconAnswer::PlanTooShort,
+            count: 0,
+            table: t,
+        };
+    }
+    let s = share::sharing_of(t);
+    let count = jobs::write_jobs(t, s, plan);
+    let table = advance::advance(t, s);
+    Beaconing {
+        answer: BeaconAnswer::Planned,
+        count,
+        table,
+    }
+}
