@@ -1,0 +1,118 @@
+// Runs the proved calls on the cases of document 01, "Tested by hand", and prints a row for each call and each record. The rows that the
+// document gives are stored beside this file, in `stdout`, and every run is held to them. Case 9 reads a plan through the window, which
+// is no call here.
+ghost use Prim.Native.Nat.{_≤_};
+ghost use lib.ListN.{length};
+ghost use Rattle.rules.specs.WellFormed.{WellFormed};
+use model::Table;
+
+// What case 1 offers, and cases 4 and 10 go on from.
+fn offers_of_case_1() -> Table
+    ensures { λ r. ⌜ WellFormed r ⌝ }
+{
+    let t = shown::table_of(1);
+    let t = shown::offer(t, 5, 1, 2, 100, 300, 4);
+    let t = shown::offer(t, 7, 2, 2, 600, 1000, 4);
+    shown::offer(t, 9, 3, 1, 300, 0, 1)
+}
+
+fn cases_1_to_3(plan: &mut [u32]) {
+    shown::line(b"case 1");
+    let t = offers_of_case_1();
+    let t = shown::beacon(t, plan);
+    shown::line(b"case 2");
+    let t = shown::beacon(t, plan);
+    shown::line(b"case 3");
+    shown::beacon(t, plan);
+}
+
+// The transfer is of stream 11.
+fn case_4() {
+    shown::line(b"case 4");
+    let t = offers_of_case_1();
+    shown::offer(t, 11, 3, 2, 748, 0, 2);
+    let t = offers_of_case_1();
+    shown::offer(t, 11, 3, 2, 749, 0, 2);
+}
+
+fn case_5(plan: &mut [u32]) {
+    shown::line(b"case 5");
+    let t = shown::table_of(1);
+    let t = shown::offer(t, 1, 2, 2, 1024, 1024, 2);
+    let t = shown::offer(t, 2, 2, 2, 1024, 1024, 2);
+    let t = shown::beacon(t, plan);
+    let t = shown::withdraw(t, 1);
+    shown::offer(t, 3, 2, 1, 1, 1, 1);
+}
+
+fn cases_6_to_8() {
+    shown::line(b"case 6");
+    let t = shown::table_of(1);
+    let t = shown::offer(t, 1, 1, 2, 512, 512, 1);
+    shown::offer(t, 2, 1, 2, 1, 1, 1);
+    shown::line(b"case 7");
+    let t = shown::table_of(1);
+    shown::offer(t, 1, 1, 3, 1, 1, 1);
+    let t = shown::table_of(3);
+    shown::offer(t, 1, 1, 3, 1, 1, 1);
+    shown::line(b"case 8");
+    let t = shown::table_of(1);
+    let t = shown::offer(t, 1, 2, 2, 1, 1, 3);
+    shown::offer(t, 1, 2, 2, 1, 1, 4);
+}
+
+// How many words are this one.
+fn count_of(word: u32, words: &[u32]) -> usize
+    ensures { λ r. ⌜ r ≤ length (now (words .entry)) ⌝ }
+{
+    let mut n = 0;
+    let mut i = 0;
+    while i < words.len() {
+        if words[i] == word {
+            n += 1;
+        }
+        i += 1;
+    }
+    n
+}
+
+// How many words of the plan's memory are still what case 10 lends, 77,777.
+fn show_untouched(plan: &[u32]) {
+    io::write_all(1, b"untouched ");
+    io::print_decimal(1, count_of(77777, plan) as u64);
+    shown::line(b"");
+}
+
+// Refused, the table and every word are as before; the same table then gives the plan of case 1.
+fn case_10_lent(lent: usize, t: Table, plan: &mut [u32]) -> Table
+    requires { ⌜ lent ≤ length (now plan) ⌝ }
+    requires { ⌜ WellFormed t ⌝ }
+    ensures { λ r. ⌜ WellFormed r ⌝ }
+{
+    let after = shown::beacon(t, &mut plan[..lent]);
+    show_untouched(plan);
+    after
+}
+
+fn case_10() {
+    shown::line(b"case 10");
+    let mut plan = [77777u32; 4096];
+    let t = offers_of_case_1();
+    shown::enquire(t, 7);
+    let t = case_10_lent(4095, t, &mut plan);
+    shown::enquire(t, 7);
+    let t = case_10_lent(4096, t, &mut plan);
+    shown::enquire(t, 7);
+    let mut clear = [77777u32; 4096];
+    let t = shown::table_of(1);
+    case_10_lent(4096, t, &mut clear);
+}
+
+fn main() {
+    let mut plan = [0u32; 4096];
+    cases_1_to_3(&mut plan);
+    case_4();
+    case_5(&mut plan);
+    cases_6_to_8();
+    case_10();
+}

@@ -1,0 +1,212 @@
+// The planner's calls, each with its row on standard output: the verb, the stream of an offer or withdrawal, and the answer's number;
+// each record of a plan is a row `slot`. The fields are those of document 01, "Reading, lending, printing"; a row ends with a line feed.
+// A program over this crate runs the proved calls, and its run is held to the rows that are stored beside it.
+ghost use mathlib.Core.Bool.{cond, true};
+ghost use mathlib.Core.Path.{_≡_};
+ghost use lib.Dec.{eqb};
+ghost use Rattle.lists.specs.Lists.{within};
+ghost use Rattle.model.specs.Answers.{offerNumber};
+ghost use Rattle.rules.specs.Calls.{openAnswer, opened, offered, withdrawn, beacon};
+ghost use Rattle.rules.specs.WellFormed.{WellFormed};
+ghost use Rattle.planner.specs.Numbers.{openNumber, heldNumber, beaconNumber, request, noTable};
+use model::Entry;
+use model::OfferAnswer;
+use model::Table;
+use planner::BeaconAnswer;
+use planner::Beaconing;
+use planner::HeldAnswer;
+use planner::OpenAnswer;
+use planner::Opening;
+
+// ---- the answers' numbers
+fn open_number(answer: OpenAnswer) -> u32
+    ensures { λ r. ⌜ r ≡ openNumber answer ⌝ }
+{
+    match answer {
+        OpenAnswer::Opened => 0,
+        OpenAnswer::UnitsOutside => 1,
+    }
+}
+
+fn offer_number(answer: OfferAnswer) -> u32
+    ensures { λ r. ⌜ r ≡ offerNumber answer ⌝ }
+{
+    match answer {
+        OfferAnswer::Accepted => 0,
+        OfferAnswer::StreamOutside => 10,
+        OfferAnswer::StreamHeld => 11,
+        OfferAnswer::KindUnknown => 12,
+        OfferAnswer::PeriodOutside => 13,
+        OfferAnswer::AmountsOutside => 14,
+        OfferAnswer::LifeOutside => 15,
+        OfferAnswer::TableFull => 16,
+        OfferAnswer::NoTime => 17,
+    }
+}
+
+fn held_number(answer: HeldAnswer) -> u32
+    ensures { λ r. ⌜ r ≡ heldNumber answer ⌝ }
+{
+    match answer {
+        HeldAnswer::Held => 0,
+        HeldAnswer::NotHeld => 20,
+    }
+}
+
+fn beacon_number(answer: BeaconAnswer) -> u32
+    ensures { λ r. ⌜ r ≡ beaconNumber answer ⌝ }
+{
+    match answer {
+        BeaconAnswer::Planned => 0,
+        BeaconAnswer::PlanTooShort => 30,
+    }
+}
+
+// ---- rows
+pub fn line(text: &[u8]) {
+    io::write_all(1, text);
+    io::write_all(1, b"\n");
+}
+
+pub fn number(n: u32) {
+    io::print_decimal(1, n as u64);
+}
+
+fn field(n: u32) {
+    number(n);
+    io::write_all(1, b",");
+}
+
+// Job, start and length are empty in the row of a call.
+fn end_row(answer: u32) {
+    io::write_all(1, b",,,");
+    number(answer);
+    io::write_all(1, b"\n");
+}
+
+fn plain_row(verb: &[u8], answer: u32) {
+    io::write_all(1, verb);
+    io::write_all(1, b",,");
+    end_row(answer);
+}
+
+fn stream_row(verb: &[u8], stream: u32, answer: u32) {
+    io::write_all(1, verb);
+    io::write_all(1, b",");
+    field(stream);
+    end_row(answer);
+}
+
+// The i-th record of a plan, where the plan has that many words.
+fn slot_row(plan: &[u32], i: usize) {
+    if plan.len() / 4 <= i {
+        return;
+    }
+    let at = 4 * i;
+    io::write_all(1, b"slot,");
+    field(plan[at]);
+    field(plan[at + 1]);
+    field(plan[at + 2]);
+    field(plan[at + 3]);
+    io::write_all(1, b"\n");
+}
+
+fn slot_rows(plan: &[u32], count: usize) {
+    let mut i = 0;
+    while i < count {
+        slot_row(plan, i);
+        i += 1;
+    }
+}
+
+// Every field of an entry.
+fn entry_row(e: Entry) {
+    io::write_all(1, b"entry,");
+    field(e.stream);
+    field(e.kind);
+    field(e.parts);
+    field(e.period.0);
+    field(e.min.0);
+    field(e.max.0);
+    field(e.life.0);
+    field(e.life_left.0);
+    field(e.owed.0);
+    field(e.given.0);
+    number(e.left.0);
+    io::write_all(1, b"\n");
+}
+
+// ---- the calls
+pub fn open(units: u32) -> Opening
+    ensures { λ r. ⌜ (openNumber (r .answer) ≡ openAnswer units) × (r .table ≡ cond (eqb (openAnswer units) 0) (opened units) noTable) ⌝ }
+{
+    let o = planner::open(units);
+    let answer = o.answer;
+    plain_row(b"open", open_number(answer));
+    o
+}
+
+// An opening that succeeds.
+pub fn table_of(units: u32) -> Table
+    requires { ⌜ within 1 1000 units ≡ true ⌝ }
+    ensures is { λ r. ⌜ r ≡ opened units ⌝ }
+    ensures formed { λ r. ⌜ WellFormed r ⌝ }
+{
+    let o = open(units);
+    o.table
+}
+
+pub fn offer(t: Table, stream: u32, kind: u32, period: u32, min: u32, max: u32, life: u32) -> Table
+    requires { ⌜ WellFormed t ⌝ }
+    ensures is { λ r. ⌜ r ≡ offered t (request stream kind period min max life) ⌝ }
+    ensures formed { λ r. ⌜ WellFormed r ⌝ }
+{
+    let o = planner::offer(t, stream, kind, period, min, max, life);
+    let answer = o.answer;
+    stream_row(b"offer", stream, offer_number(answer));
+    o.table
+}
+
+pub fn withdraw(t: Table, stream: u32) -> Table
+    requires { ⌜ WellFormed t ⌝ }
+    ensures is { λ r. ⌜ r ≡ withdrawn t stream ⌝ }
+    ensures formed { λ r. ⌜ WellFormed r ⌝ }
+{
+    let w = planner::withdraw(t, stream);
+    let answer = w.answer;
+    stream_row(b"withdraw", stream, held_number(answer));
+    w.table
+}
+
+pub fn enquire(t: Table, stream: u32)
+    requires { ⌜ WellFormed t ⌝ }
+{
+    let q = planner::enquire(t, stream);
+    let answer = q.answer;
+    stream_row(b"enquire", stream, held_number(answer));
+    entry_row(q.entry);
+}
+
+// The answer alone.
+pub fn tick(t: Table, plan: &mut [u32]) -> Beaconing
+    requires { ⌜ WellFormed t ⌝ }
+    ensures is { λ r. let b = beacon t (now (plan .entry)) in
+        ⌜ (beaconNumber (r .answer) ≡ b .answer) × ((r .count ≡ b .count) × ((r .table ≡ b .table) × (now (plan .exit) ≡ b .words))) ⌝ }
+    ensures formed { λ r. ⌜ WellFormed (r .table) ⌝ }
+{
+    let b = planner::beacon(t, plan);
+    let answer = b.answer;
+    plain_row(b"beacon", beacon_number(answer));
+    b
+}
+
+// The answer, and every record of the plan.
+pub fn beacon(t: Table, plan: &mut [u32]) -> Table
+    requires { ⌜ WellFormed t ⌝ }
+    ensures is { λ r. let b = beacon t (now (plan .entry)) in ⌜ (r ≡ b .table) × (now (plan .exit) ≡ b .words) ⌝ }
+    ensures formed { λ r. ⌜ WellFormed r ⌝ }
+{
+    let b = tick(t, plan);
+    slot_rows(plan, b.count);
+    b.table
+}
