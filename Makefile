@@ -1,12 +1,11 @@
 # The two commands of the README.
 .PHONY: show test reference cost
 
-# Prove everything (quickly, where nothing has changed) and show the worked cases that the definitions compute.
+# Prove everything (quickly, where nothing has changed), and run the proved calls on the worked cases of document 01.
 show:
 	@rt check
 	@echo
-	@echo "The worked cases of document 01 that the theorem cases-right computes (crates/rules/specs/Cases.antt):"
-	@sed -n '/^-- ---- the cases/,/^abbrev start/p' crates/rules/specs/Cases.antt | sed '$$d'
+	@target/bin/cases
 
 # The gate: layout, the second implementation's own tests and its stored rows, then every proof from nothing and every must-fail edit.
 test: reference
