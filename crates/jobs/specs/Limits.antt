@@ -119,7 +119,9 @@ module _ (t : Table) (w : Tidy t) where
   length-free = record { some = some-slots; most = le-refl B; few = omega arith }
 
   pub length-held : All (λ e. Length B (jobLength B e)) (heldOf t)
-  length-held = all-keep isHeld (λ e q l. l) (by-kind t w (λ e. Length B (jobLength B e)) length-free fraction (λ e p k. one e p) (λ e p k. one e p))
+  length-held =
+      all-keep isHeld (λ e q l. l)
+      (by-kind t w (λ e. Length B (jobLength B e)) length-free fraction (λ e p k. one e p) (λ e p k. one e p))
     where
       fraction : (e : Entry) → Fraction B e → Length B (jobLength B e)
       fraction e f =

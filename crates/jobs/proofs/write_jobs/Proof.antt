@@ -41,7 +41,8 @@ returns c =
     let p = c .before .before in
     let s = p .before .before .before .before .before .before .before .before in
     let l = p .before .before .before in
-    let plan = plan-made (s .args .t) (s .pre .0) (s .pre .1 .0) (l .before .before .before .ordered .ensures) (l .before .streams-of .ensures)
+    let os = l .before .before .before .ordered .ensures in
+    let plan = plan-made (s .args .t) (s .pre .0) (s .pre .1 .0) os (l .before .streams-of .ensures)
     (l .lengths-of .ensures) (p .before .before .needs-of .ensures) .1 in
     let e = p .write-plan .ensures in
     (e .0 ∙ ap length plan, e .1 .1 ∙ ap (λ rs. wordsOf rs ++ drop (4 * p .write-plan .result) (now (s .args .plan))) plan)

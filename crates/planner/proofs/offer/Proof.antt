@@ -19,7 +19,8 @@ is-accepted-requires c κs = search needs
 returns : tie.Need-returns
 returns c =
     let s = c .before .before .before in
-    refused-answer (s .args .t) (s .pre) _ (c .before .before .first-refusal .ensures) (sym (c .before .is-accepted .ensures) ∙ not-true _ (c .if1 .taken))
+    refused-answer (s .args .t) (s .pre) _ (c .before .before .first-refusal .ensures)
+    (sym (c .before .is-accepted .ensures) ∙ not-true _ (c .if1 .taken))
 
 entry-of-requires : tie.Need-entry-of-requires
 entry-of-requires c κs = search needs
@@ -39,7 +40,8 @@ fits-ahead-requires c κs =
     let p = c .before .before in
     let s = p .before .before .before in
     subst Tidy (sym (with-request c))
-    (request-tidy (s .args .t) (s .pre) _ (p .before .before .first-refusal .ensures) (sym (p .before .is-accepted .ensures) ∙ not-false _ (p .if1 .left)))
+    (request-tidy (s .args .t) (s .pre) _ (p .before .before .first-refusal .ensures)
+    (sym (p .before .is-accepted .ensures) ∙ not-false _ (p .if1 .left)))
 
 looked : (c : tie.After-fits-ahead) → (let a = c .before .before .before .before .before .before .args in
     c .fits-ahead .result

@@ -15,7 +15,9 @@ empty-table-requires c κs = search needs
 
 returns : tie.Need-returns
 unfolding openAnswer refusal
-returns c = (let q = sym (c .before .before .is-within .ensures) ∙ not-true _ (c .before .if1 .taken) in (rw q, rw q (c .empty-table .ensures)))
+returns c =
+    let q = sym (c .before .before .is-within .ensures) ∙ not-true _ (c .before .if1 .taken) in
+    (rw q, rw q (c .empty-table .ensures))
 
 mul-empty-table : tie.Need-mul-empty-table
 mul-empty-table c =
@@ -26,7 +28,9 @@ empty-table-requires-2 c κs = search needs
 
 returns-2 : tie.Need-returns-2
 unfolding openAnswer refusal opened
-returns-2 c = (let q = sym (c .before .before .is-within .ensures) ∙ not-false _ (c .before .if1 .left) in (rw q, rw q (c .empty-table2 .ensures)))
+returns-2 c =
+    let q = sym (c .before .before .is-within .ensures) ∙ not-false _ (c .before .if1 .left) in
+    (rw q, rw q (c .empty-table2 .ensures))
 
 pub open-spec : {M : Type 1} → statement M
 open-spec =
