@@ -1,0 +1,54 @@
+-- Printed rows. Document 01, "Reading, lending, printing": rows of six fields with CR LF; numbers without leading zeros, their digits
+-- from a table of powers of ten. Assumes nothing.
+use Prim.Native.Nat.{ℕ, zero, suc, _+_, _/_, _%_, max}
+use mathlib.Core.List.{List, [], _∷_, _++_, map}
+use lib.Dec.{leb}
+use lib.ListN.{length, take, drop, getD}
+use Rattle.lists.specs.Lists.{keep}
+
+-- ---- numbers
+abbrev pub tens : List ℕ
+tens = 1000000000 ∷ 100000000 ∷ 10000000 ∷ 1000000 ∷ 100000 ∷ 10000 ∷ 1000 ∷ 100 ∷ 10 ∷ 1 ∷ []
+
+-- the digit of n at a power of ten
+abbrev pub digitAt : ℕ → ℕ → ℕ
+digitAt n p = 48 + n / p % 10
+
+-- the digits at the powers that are at most n; 0 has one
+unfoldable pub decimal : ℕ → List ℕ
+decimal n = map (digitAt n) (keep (λ p. leb p (max 1 n)) tens)
+
+-- ---- rows
+abbrev pub crlf : List ℕ
+crlf = 13 ∷ 10 ∷ []
+
+-- `row,stream,job,start,length,answer`
+abbrev pub header : List ℕ
+header =
+    114 ∷ 111 ∷ 119 ∷ 44 ∷ 115 ∷ 116 ∷ 114 ∷ 101 ∷ 97 ∷ 109 ∷ 44 ∷ 106 ∷ 111 ∷ 98 ∷ 44 ∷ 115 ∷ 116 ∷ 97 ∷ 114 ∷ 116 ∷ 44
+    ∷ 108 ∷ 101 ∷ 110 ∷ 103 ∷ 116 ∷ 104 ∷ 44 ∷ 97 ∷ 110 ∷ 115 ∷ 119 ∷ 101 ∷ 114 ∷ []
+
+abbrev pub headerRow : List ℕ
+headerRow = header ++ crlf
+
+-- a call without a stream: `verb,,,,,answer`
+unfoldable pub plainRow : List ℕ → ℕ → List ℕ
+plainRow verb answer = verb ++ 44 ∷ 44 ∷ 44 ∷ 44 ∷ 44 ∷ decimal answer ++ crlf
+
+-- a call on a stream: `verb,stream,,,,answer`
+unfoldable pub streamRow : List ℕ → ℕ → ℕ → List ℕ
+streamRow verb stream answer = verb ++ 44 ∷ decimal stream ++ 44 ∷ 44 ∷ 44 ∷ 44 ∷ decimal answer ++ crlf
+
+-- a record: `slot,stream,job,start,length,`
+unfoldable pub slotRow : (stream job start len : ℕ) → List ℕ
+slotRow stream job start len =
+    115 ∷ 108 ∷ 111 ∷ 116 ∷ 44 ∷ decimal stream ++ 44 ∷ decimal job ++ 44 ∷ decimal start ++ 44 ∷ decimal len ++ 44 ∷ crlf
+
+-- a row for each of the first n records of a plan's words
+unfoldable pub slotRows : ℕ → List ℕ → List ℕ
+slotRows zero ws = []
+slotRows (suc n) ws = slotRow (getD ws 0 0) (getD ws 1 0) (getD ws 2 0) (getD ws 3 0) ++ slotRows n (drop 4 ws)
+
+-- ---- lent memory: some bytes stand in it from a place on, and every other byte is as it was
+unfoldable pub written : List ℕ → ℕ → List ℕ → List ℕ
+written out at bs = take at out ++ bs ++ drop (at + length bs) out

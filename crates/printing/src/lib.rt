@@ -1,0 +1,2 @@
+// Rows of text in lent memory.
+ghost use mathlib.Core.Path.{_≡_};

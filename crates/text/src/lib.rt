@@ -1,0 +1,1 @@
+// Rows of text: what they are made of. Definitions alone, in specs/.
