@@ -42,9 +42,9 @@ fn with_byte(line: Line, b: u8) -> Line
     if at < ROW_MOST {
         next.bytes[at] = b;
         next.len = at + 1;
-    } else {
-        next.len = ROW_MOST + 1;
+        return next;
     }
+    next.len = ROW_MOST + 1;
     next
 }
 
