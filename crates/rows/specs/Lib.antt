@@ -1,3 +1,5 @@
 pub mod Lines
 pub mod LineLaws
 pub mod Chunks
+pub mod Kept
+pub mod Cuts
