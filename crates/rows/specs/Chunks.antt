@@ -78,6 +78,7 @@ free-step b bs free held l = ⊎-elim is-cr is-other (either (eqb b cr))
   where
     is-cr : eqb b cr ≡ true → all (record { line = l; held = false }) (b ∷ bs) ≡ joined l (rowsOf (b ∷ bs))
     is-cr e = rw (e, eqb-true b cr e) (held l)
+
     is-other : eqb b cr ≡ false → all (record { line = l; held = false }) (b ∷ bs) ≡ joined l (rowsOf (b ∷ bs))
     is-other e = rw (e, other-byte b bs e) (free (withByte l b) ∙ one-more l b (rowsOf bs))
 

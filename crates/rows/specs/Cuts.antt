@@ -34,6 +34,7 @@ row-ended n r (b ∷ bs) e = ⊎-elim here (on (row-ended (suc n) (afterByte r b
       lines = rw t refl;
       after = rw t refl;
     }
+
     on : (cutFrom (suc n) (afterByte r b) bs .ended ≡ true → Ended (suc n) (afterByte r b) bs) → endsRow r b ≡ false → Ended n r (b ∷ bs)
     on later t =
         let m = later (rw t at e) in
@@ -57,5 +58,6 @@ row-open n r (b ∷ bs) e = ⊎-elim here (on (row-open (suc n) (afterByte r b) 
   where
     here : endsRow r b ≡ true → Open n r (b ∷ bs)
     here t = absurd (clash (cutFrom n r (b ∷ bs) .ended) (rw t refl) e)
+
     on : (cutFrom (suc n) (afterByte r b) bs .ended ≡ false → Open (suc n) (afterByte r b) bs) → endsRow r b ≡ false → Open n r (b ∷ bs)
     on later t = let m = later (rw t at e) in rw t (m .0 ∙ omega arith, m .1)

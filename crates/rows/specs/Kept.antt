@@ -34,9 +34,10 @@ fits l [] h f = (omega arith, sym (append-nil _))
 fits l (b ∷ row) h f =
     let next : Line = record { bytes = set (l .bytes) (l .len) b; len = suc (l .len) } in
     let ih = fits next row (length-set (l .bytes) (l .len) b ∙ h) (omega arith) in
-    let on = ap (λ z. lineFrom z row) (room l b (omega arith)) in
-    (ap (λ z. z .len) on ∙ ih .0 ∙ omega arith
-    , ap textOf on ∙ ih .1 ∙ ap (λ ys. ys ++ row) (take-suc-set (l .bytes) (l .len) b (omega arith)) ∙ append-assoc (textOf l) (b ∷ []) row)
+    let on = ap (λ z. lineFrom z row) (room l b (omega arith)) in (
+      ap (λ z. z .len) on ∙ ih .0 ∙ omega arith,
+      ap textOf on ∙ ih .1 ∙ ap (λ ys. ys ++ row) (take-suc-set (l .bytes) (l .len) b (omega arith)) ∙ append-assoc (textOf l) (b ∷ []) row,
+    )
 
 pub kept-whole : (row : List ℕ) → length row ≤ rowMost → (lineOf row .len ≡ length row) × (textOf (lineOf row) ≡ row)
 unfolding noLine
@@ -49,10 +50,10 @@ over l [] h f = omega arith
 over l (b ∷ row) h f =
     ⊎-elim
     (λ e. let t = ltb-true (l .len) rowMost e in
-        ap (λ z. lineFrom z row .len) (room l b t)
-        ∙ over (record { bytes = set (l .bytes) (l .len) b; len = suc (l .len) }) row (omega arith) (omega arith))
+    ap (λ z. lineFrom z row .len) (room l b t)
+    ∙ over (record { bytes = set (l .bytes) (l .len) b; len = suc (l .len) }) row (omega arith) (omega arith))
     (λ e. ap (λ z. lineFrom z row .len) (full l b (ltb-false (l .len) rowMost e))
-        ∙ over (record { bytes = l .bytes; len = suc rowMost }) row (omega arith) (omega arith))
+    ∙ over (record { bytes = l .bytes; len = suc rowMost }) row (omega arith) (omega arith))
     (either (ltb (l .len) rowMost))
 
 pub kept-long : (row : List ℕ) → rowMost < length row → lineOf row .len ≡ suc rowMost
