@@ -14,8 +14,10 @@ ghost use Rattle.model.specs.Requests.{wholePeriod, wholeAmounts, wholeL
 ghost use Rattle.model.specs.Requests.{transferPeriod, transferAmounts, transferLife, transferChecks};
 
 // Counts of slots and counts of beacon intervals are different units: no sum takes one of each.
+#[repr(C)]
 pub struct Slots(pub u32);
 
+#[repr(C)]
 pub struct Intervals(pub u32);
 
 // What an offer answers.
@@ -318,6 +320,7 @@ impl Request {
 // A held request, or a free place, which is all zero. The period field of an offer is parts for kind 1, period for the others.
 // life_left counts the intervals still to come. Kinds 2 and 3 also have the slots owed for the minimum, the slots given in this
 // period, and the intervals left to its deadline.
+#[repr(C)]
 pub struct Entry {
     pub stream: u32,
     pub kind: u32,
@@ -333,6 +336,7 @@ pub struct Entry {
 }
 
 // The planner's whole state: the slots of an interval, and 32 places.
+#[repr(C)]
 pub struct Table {
     pub interval: Slots,
     pub entries: [Entry; 32],

@@ -34,6 +34,50 @@ pub enum BeaconAnswer {
     PlanTooShort,
 }
 
+// ---- the answers' numbers, for a caller that shows them
+pub fn open_number(answer: OpenAnswer) -> u32
+    ensures { λ r. ⌜ r ≡ openNumber answer ⌝ }
+{
+    match answer {
+        OpenAnswer::Opened => 0,
+        OpenAnswer::UnitsOutside => 1,
+    }
+}
+
+pub fn offer_number(answer: OfferAnswer) -> u32
+    ensures { λ r. ⌜ r ≡ offerNumber answer ⌝ }
+{
+    match answer {
+        OfferAnswer::Accepted => 0,
+        OfferAnswer::StreamOutside => 10,
+        OfferAnswer::StreamHeld => 11,
+        OfferAnswer::KindUnknown => 12,
+        OfferAnswer::PeriodOutside => 13,
+        OfferAnswer::AmountsOutside => 14,
+        OfferAnswer::LifeOutside => 15,
+        OfferAnswer::TableFull => 16,
+        OfferAnswer::NoTime => 17,
+    }
+}
+
+pub fn held_number(answer: HeldAnswer) -> u32
+    ensures { λ r. ⌜ r ≡ heldNumber answer ⌝ }
+{
+    match answer {
+        HeldAnswer::Held => 0,
+        HeldAnswer::NotHeld => 20,
+    }
+}
+
+pub fn beacon_number(answer: BeaconAnswer) -> u32
+    ensures { λ r. ⌜ r ≡ beaconNumber answer ⌝ }
+{
+    match answer {
+        BeaconAnswer::Planned => 0,
+        BeaconAnswer::PlanTooShort => 30,
+    }
+}
+
 // ---- opening
 pub struct Opening {
     pub answer: OpenAnswer,

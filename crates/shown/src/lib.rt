@@ -5,62 +5,13 @@ ghost use mathlib.Core.Bool.{cond, true};
 ghost use mathlib.Core.Path.{_≡_};
 ghost use lib.Dec.{eqb};
 ghost use Rattle.lists.specs.Lists.{within};
-ghost use Rattle.model.specs.Answers.{offerNumber};
 ghost use Rattle.rules.specs.Calls.{openAnswer, opened, offered, withdrawn, beacon};
 ghost use Rattle.rules.specs.WellFormed.{WellFormed};
-ghost use Rattle.planner.specs.Numbers.{openNumber, heldNumber, beaconNumber, request, noTable};
+ghost use Rattle.planner.specs.Numbers.{openNumber, beaconNumber, request, noTable};
 use model::Entry;
-use model::OfferAnswer;
 use model::Table;
-use planner::BeaconAnswer;
 use planner::Beaconing;
-use planner::HeldAnswer;
-use planner::OpenAnswer;
 use planner::Opening;
-
-// ---- the answers' numbers
-fn open_number(answer: OpenAnswer) -> u32
-    ensures { λ r. ⌜ r ≡ openNumber answer ⌝ }
-{
-    match answer {
-        OpenAnswer::Opened => 0,
-        OpenAnswer::UnitsOutside => 1,
-    }
-}
-
-fn offer_number(answer: OfferAnswer) -> u32
-    ensures { λ r. ⌜ r ≡ offerNumber answer ⌝ }
-{
-    match answer {
-        OfferAnswer::Accepted => 0,
-        OfferAnswer::StreamOutside => 10,
-        OfferAnswer::StreamHeld => 11,
-        OfferAnswer::KindUnknown => 12,
-        OfferAnswer::PeriodOutside => 13,
-        OfferAnswer::AmountsOutside => 14,
-        OfferAnswer::LifeOutside => 15,
-        OfferAnswer::TableFull => 16,
-        OfferAnswer::NoTime => 17,
-    }
-}
-
-fn held_number(answer: HeldAnswer) -> u32
-    ensures { λ r. ⌜ r ≡ heldNumber answer ⌝ }
-{
-    match answer {
-        HeldAnswer::Held => 0,
-        HeldAnswer::NotHeld => 20,
-    }
-}
-
-fn beacon_number(answer: BeaconAnswer) -> u32
-    ensures { λ r. ⌜ r ≡ beaconNumber answer ⌝ }
-{
-    match answer {
-        BeaconAnswer::Planned => 0,
-        BeaconAnswer::PlanTooShort => 30,
-    }
-}
 
 // ---- rows
 pub fn line(text: &[u8]) {
@@ -142,7 +93,7 @@ pub fn open(units: u32) -> Opening
 {
     let o = planner::open(units);
     let answer = o.answer;
-    plain_row(b"open", open_number(answer));
+    plain_row(b"open", planner::open_number(answer));
     o
 }
 
@@ -163,7 +114,7 @@ pub fn offer(t: Table, stream: u32, kind: u32, period: u32, min: u32, max: u32, 
 {
     let o = planner::offer(t, stream, kind, period, min, max, life);
     let answer = o.answer;
-    stream_row(b"offer", stream, offer_number(answer));
+    stream_row(b"offer", stream, planner::offer_number(answer));
     o.table
 }
 
@@ -174,7 +125,7 @@ pub fn withdraw(t: Table, stream: u32) -> Table
 {
     let w = planner::withdraw(t, stream);
     let answer = w.answer;
-    stream_row(b"withdraw", stream, held_number(answer));
+    stream_row(b"withdraw", stream, planner::held_number(answer));
     w.table
 }
 
@@ -183,7 +134,7 @@ pub fn enquire(t: Table, stream: u32)
 {
     let q = planner::enquire(t, stream);
     let answer = q.answer;
-    stream_row(b"enquire", stream, held_number(answer));
+    stream_row(b"enquire", stream, planner::held_number(answer));
     entry_row(q.entry);
 }
 
@@ -196,7 +147,7 @@ pub fn tick(t: Table, plan: &mut [u32]) -> Beaconing
 {
     let b = planner::beacon(t, plan);
     let answer = b.answer;
-    plain_row(b"beacon", beacon_number(answer));
+    plain_row(b"beacon", planner::beacon_number(answer));
     b
 }
 
