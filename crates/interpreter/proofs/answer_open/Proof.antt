@@ -1,0 +1,54 @@
+use mathlib.Core.Path.{refl, sym, ap, _∙_}
+use borrow.Author.Tests.{eq-eqb, ne-eqb}
+use Rattle.interpreter.specs.Meaning.{withTable, stateAfter, rowsFor}
+use borrow.Author.Needs.{needs}
+use Rattle.interpreter.proofs.answer_open.Statement.{statement}
+use Rattle.interpreter.proofs.answer_open.Tie as tie
+
+open-requires : tie.Need-open-requires
+open-requires c κs = search needs
+
+open-number-requires : tie.Need-open-number-requires
+open-number-requires c κs = search needs
+
+slice-aggregate-plain-row : tie.Need-slice-aggregate-plain-row
+slice-aggregate-plain-row c = search needs
+
+plain-row-requires : tie.Need-plain-row-requires
+plain-row-requires c κs = search needs
+
+same-length : tie.Need-same-length
+same-length c = search needs
+
+returns : tie.Need-returns
+unfolding stateAfter rowsFor
+returns c =
+    let e = c .before .before .before .before .before .before .before .before .«open» .ensures in
+    let q = c .before .before .before .before .before .before .before .open-number .ensures ∙ e .0 in
+    let z = eq-eqb _ _ (sym q ∙ c .before .if1 .taken) in
+    let w = c .before .before .before .before .plain-row .ensures in
+    (rw z (ap withTable (e .1 ∙ rw z refl)), (rw (sym q) (w .0), rw (sym q) (w .1)))
+
+same-length-2 : tie.Need-same-length-2
+same-length-2 c = search needs
+
+returns-2 : tie.Need-returns-2
+unfolding stateAfter rowsFor
+returns-2 c =
+    let q = c .before .before .before .before .before .before .open-number .ensures ∙ c .before .before .before .before .before .before .before .«open» .ensures .0 in
+    let z = ne-eqb _ _ (λ k. c .if1 .left (q ∙ k)) in
+    let w = c .before .before .before .plain-row .ensures in
+    (rw z refl, (rw (sym q) (w .0), rw (sym q) (w .1)))
+
+pub answer-open-spec : {M : Type 1} → statement M
+answer-open-spec =
+    tie.close
+    (tie.spec
+    open-requires
+    open-number-requires
+    slice-aggregate-plain-row
+    plain-row-requires
+    same-length
+    returns
+    same-length-2
+    returns-2)

@@ -1,0 +1,4 @@
+pub mod Meaning
+pub mod Room
+pub mod Cutting
+pub mod Whole

@@ -1,0 +1,214 @@
+// Rows of text in, rows of text out: each row that is read is a call of the planner, whose answer is printed. What stands between two
+// rows, and between two chunks of the input, is a struct by value.
+ghost use mathlib.Core.Path.{_≡_};
+ghost use Prim.Native.Nat.{_+_, _≤_};
+ghost use lib.ListN.{length};
+ghost use Rattle.commands.specs.declared.Command.the-variants.{Open, Offer, Withdraw, Beacon};
+ghost use Rattle.printing.specs.Printed.{written};
+ghost use Rattle.interpreter.specs.Meaning.{firstState, stateAfter, planAfter, rowsFor};
+ghost use Rattle.interpreter.specs.Room.{planWords, answerMost, Ready};
+ghost use Rattle.interpreter.specs.Cutting.{firstShelf, commandIn, cutOf, stepShelf, stepRows, stepPlan, lastRows, lastPlan};
+use commands::Command;
+use model::Request;
+use model::Table;
+use rows::Line;
+use rows::Reader;
+
+// The table, where an opening has succeeded.
+pub struct State {
+    pub ready: bool,
+    pub table: Table,
+}
+
+// The state after a row's call, and the place after its answer's rows.
+pub struct Answered {
+    pub state: State,
+    pub at: usize,
+}
+
+// Between two chunks: the row that has begun, and the state.
+pub struct Shelf {
+    pub reader: Reader,
+    pub state: State,
+}
+
+// How many bytes of the chunk are done with, and the place after the rows that were printed.
+pub struct Served {
+    pub shelf: Shelf,
+    pub taken: usize,
+    pub at: usize,
+}
+
+// ---- one call and its rows
+// Refused, an opening leaves the table of the one before it.
+fn answer_open(s: State, units: u32, out: &mut [u8], at: usize) -> Answered
+    requires { ⌜ at + answerMost ≤ length (now out) ⌝ }
+    ensures { λ r. let c = Open units in let bs = rowsFor s c in
+        ⌜ (r .state ≡ stateAfter s c) × ((r .at ≡ at + length bs) × (now (out .exit) ≡ written (now (out .entry)) at bs)) ⌝ }
+{
+    let o = planner::open(units);
+    let answer = o.answer;
+    let number = planner::open_number(answer);
+    let next = printing::plain_row(out, at, b"open", number);
+    if number == 0 {
+        let table = o.table;
+        let state = State { ready: true, table };
+        return Answered { state, at: next };
+    }
+    Answered { state: s, at: next }
+}
+
+fn answer_offer(s: State, q: Request, out: &mut [u8], at: usize) -> Answered
+    requires { ⌜ Ready s ⌝ }
+    requires { ⌜ at + answerMost ≤ length (now out) ⌝ }
+    ensures { λ r. let c = Offer q in let bs = rowsFor s c in
+        ⌜ (r .state ≡ stateAfter s c) × ((r .at ≡ at + length bs) × (now (out .exit) ≡ written (now (out .entry)) at bs)) ⌝ }
+{
+    if !s.ready {
+        let next = printing::stream_row(out, at, b"offer", q.stream, 51);
+        return Answered { state: s, at: next };
+    }
+    let o = planner::offer(s.table, q.stream, q.kind, q.period, q.min, q.max, q.life);
+    let answer = o.answer;
+    let number = planner::offer_number(answer);
+    let next = printing::stream_row(out, at, b"offer", q.stream, number);
+    let table = o.table;
+    let state = State { ready: true, table };
+    Answered { state, at: next }
+}
+
+fn answer_withdraw(s: State, stream: u32, out: &mut [u8], at: usize) -> Answered
+    requires { ⌜ Ready s ⌝ }
+    requires { ⌜ at + answerMost ≤ length (now out) ⌝ }
+    ensures { λ r. let c = Withdraw stream in let bs = rowsFor s c in
+        ⌜ (r .state ≡ stateAfter s c) × ((r .at ≡ at + length bs) × (now (out .exit) ≡ written (now (out .entry)) at bs)) ⌝ }
+{
+    if !s.ready {
+        let next = printing::stream_row(out, at, b"withdraw", stream, 51);
+        return Answered { state: s, at: next };
+    }
+    let w = planner::withdraw(s.table, stream);
+    let answer = w.answer;
+    let number = planner::held_number(answer);
+    let next = printing::stream_row(out, at, b"withdraw", stream, number);
+    let table = w.table;
+    let state = State { ready: true, table };
+    Answered { state, at: next }
+}
+
+// The plan is in lent memory, and each of its records has a row.
+fn answer_beacon(s: State, plan: &mut [u32], out: &mut [u8], at: usize) -> Answered
+    requires { ⌜ Ready s ⌝ }
+    requires { ⌜ planWords ≤ length (now plan) ⌝ }
+    requires { ⌜ at + answerMost ≤ length (now out) ⌝ }
+    ensures { λ r. let bs = rowsFor s Beacon in
+        ⌜ (r .state ≡ stateAfter s Beacon) × ((r .at ≡ at + length bs)
+        × ((now (out .exit) ≡ written (now (out .entry)) at bs) × (now (plan .exit) ≡ planAfter s Beacon (now (plan .entry))))) ⌝ }
+{
+    if !s.ready {
+        let next = printing::plain_row(out, at, b"beacon", 51);
+        return Answered { state: s, at: next };
+    }
+    let b = planner::beacon(s.table, plan);
+    let answer = b.answer;
+    let number = planner::beacon_number(answer);
+    let after_call = printing::plain_row(out, at, b"beacon", number);
+    let next = printing::slot_rows(out, after_call, plan, b.count);
+    let table = b.table;
+    let state = State { ready: true, table };
+    Answered { state, at: next }
+}
+
+// A row's call, and the rows of its answer from `at` on; every other byte stays as it was.
+pub fn answer(s: State, c: Command, plan: &mut [u32], out: &mut [u8], at: usize) -> Answered
+    requires { ⌜ Ready s ⌝ }
+    requires { ⌜ planWords ≤ length (now plan) ⌝ }
+    requires { ⌜ at + answerMost ≤ length (now out) ⌝ }
+    ensures { λ r. let bs = rowsFor s c in
+        ⌜ (r .state ≡ stateAfter s c) × ((r .at ≡ at + length bs)
+        × ((now (out .exit) ≡ written (now (out .entry)) at bs) × (now (plan .exit) ≡ planAfter s c (now (plan .entry))))) ⌝ }
+{
+    match c {
+        Command::Open(units) => answer_open(s, units, out, at),
+        Command::Offer(q) => answer_offer(s, q, out, at),
+        Command::Withdraw(stream) => answer_withdraw(s, stream, out, at),
+        Command::Beacon => answer_beacon(s, plan, out, at),
+        Command::OtherForm => Answered {
+            state: s,
+            at: printing::plain_row(out, at, b"row", 50),
+        },
+    }
+}
+
+// ---- rows of the input
+pub fn first_shelf() -> Shelf
+    ensures { λ r. ⌜ r ≡ firstShelf ⌝ }
+{
+    let none = planner::open(0);
+    let table = none.table;
+    let reader = rows::at_start();
+    let state = State {
+        ready: false,
+        table,
+    };
+    Shelf { reader, state }
+}
+
+fn command_in(line: Line) -> Command
+    ensures { λ c. ⌜ c ≡ commandIn line ⌝ }
+{
+    let len = line.len;
+    if len <= rows::ROW_MOST {
+        let bytes = line.bytes;
+        return commands::command_of(&bytes[..len]);
+    }
+    Command::OtherForm
+}
+
+// Up to the end of the row in this chunk, and the row's answer; or through the chunk, where the row goes on after it.
+pub fn serve(s: Shelf, chunk: &[u8], plan: &mut [u32], out: &mut [u8], at: usize) -> Served
+    requires { ⌜ Ready (s .state) ⌝ }
+    requires { ⌜ planWords ≤ length (now plan) ⌝ }
+    requires { ⌜ at + answerMost ≤ length (now out) ⌝ }
+    ensures { λ r. let bs = now (chunk .entry) in let rows = stepRows s bs in
+        ⌜ (r .shelf ≡ stepShelf s bs) × ((r .taken ≡ cutOf s bs .taken) × ((r .at ≡ at + length rows)
+        × ((now (out .exit) ≡ written (now (out .entry)) at rows) × (now (plan .exit) ≡ stepPlan s bs (now (plan .entry)))))) ⌝ }
+{
+    let c = rows::cut_row(s.reader, chunk);
+    let reader = c.reader;
+    let state = s.state;
+    if !c.ended {
+        let shelf = Shelf { reader, state };
+        return Served {
+            shelf,
+            taken: c.taken,
+            at,
+        };
+    }
+    let a = answer(state, command_in(reader.line), plan, out, at);
+    let reader = rows::at_start();
+    let state = a.state;
+    let shelf = Shelf { reader, state };
+    Served {
+        shelf,
+        taken: c.taken,
+        at: a.at,
+    }
+}
+
+// At the end of the input: the answer to the last row, where that has a byte and no CR LF.
+pub fn finish(s: Shelf, plan: &mut [u32], out: &mut [u8], at: usize) -> usize
+    requires { ⌜ Ready (s .state) ⌝ }
+    requires { ⌜ planWords ≤ length (now plan) ⌝ }
+    requires { ⌜ at + answerMost ≤ length (now out) ⌝ }
+    ensures { λ r. let rows = lastRows s in
+        ⌜ (r ≡ at + length rows) × ((now (out .exit) ≡ written (now (out .entry)) at rows)
+        × (now (plan .exit) ≡ lastPlan s (now (plan .entry)))) ⌝ }
+{
+    let line = rows::unheld(s.reader);
+    if line.len == 0 {
+        return at;
+    }
+    let a = answer(s.state, command_in(line), plan, out, at);
+    a.at
+}
