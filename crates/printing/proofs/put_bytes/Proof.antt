@@ -1,0 +1,67 @@
+-- `printing::put_bytes` meets its contract. The invariant: to write the bytes that are left gives what all of them give.
+-- Assumes nothing.
+use mathlib.Core.Path.{_≡_, refl, sym, ap, _∙_}
+use Prim.Native.Nat.{_≤_, _+_, _-_}
+use native.Mathlib.Omega.{arith}
+use lib.ListN.{length, drop, length-set, drop-of-length-le}
+use borrow.Author.Needs.{needs}
+use Rattle.printing.specs.Printed.{written}
+use Rattle.printing.specs.PrintedLaws.{byte-written, none-left}
+use Rattle.printing.proofs.put_bytes.Statement.{statement}
+use Rattle.printing.proofs.put_bytes.Tie as tie
+use Rattle.printing.proofs.put_bytes.Reads as reads
+use Rattle.printing.proofs.put_bytes.Lts as lts
+
+abbrev Inv-loop : tie.InvT-loop
+Inv-loop out₀ at bytes i₀ i-end out i =
+    (i ≤ length bytes) × (length out ≡ length out₀) × (written out (at + i) (drop i bytes) ≡ written out₀ at bytes)
+
+abbrev μ-loop : tie.MeasureT-loop
+μ-loop out₀ at bytes i₀ i-end out i = length bytes - i
+
+loop-holds : tie.Need-loop-holds Inv-loop μ-loop
+loop-holds c = ?
+
+shared-slice-read-out : tie.Need-shared-slice-read-out Inv-loop μ-loop
+shared-slice-read-out c = search needs
+
+add-out : tie.Need-add-out Inv-loop μ-loop
+add-out c = search needs
+
+slice-write-out : tie.Need-slice-write-out Inv-loop μ-loop
+slice-write-out c = search needs
+
+add-i : tie.Need-add-i Inv-loop μ-loop
+add-i c = search needs
+
+loop-less : tie.Need-loop-less Inv-loop μ-loop
+loop-less c = search needs
+
+loop-again : tie.Need-loop-again Inv-loop μ-loop
+loop-again c = ?
+
+add-result : tie.Need-add-result Inv-loop μ-loop
+add-result c = search needs
+
+same-length : tie.Need-same-length Inv-loop μ-loop
+same-length c = search needs
+
+returns : tie.Need-returns Inv-loop μ-loop
+returns c = ?
+
+pub put-bytes-spec : {M : Type 1} → statement M
+put-bytes-spec =
+    tie.close
+    (tie.spec
+    Inv-loop
+    μ-loop
+    loop-holds
+    shared-slice-read-out
+    add-out
+    slice-write-out
+    add-i
+    loop-less
+    loop-again
+    add-result
+    same-length
+    returns)
