@@ -1,5 +1,5 @@
 -- Laws of printed rows: bytes that are written one after the other, and how long rows are. Assumes nothing.
-use mathlib.Core.Path.{_≡_, refl, sym, ap, ap₂, _∙_}
+use mathlib.Core.Path.{_≡_, refl, sym, ap, ap₂, subst, _∙_}
 use mathlib.Core.Bool.{Bool}
 use mathlib.Core.List.{List, [], _∷_, _++_, map, append-assoc, append-nil}
 use Prim.Native.Nat.{ℕ, zero, suc, _+_, _*_, _-_, _≤_, _<_}
@@ -11,10 +11,6 @@ use borrow.Author.Tests.{le-leb, lt-leb}
 use Rattle.lists.specs.Lists.{cons-if, keep}
 use Rattle.lists.specs.Loops.{left-next}
 use Rattle.printing.specs.Printed.{tens, digitAt, written}
-
--- the place after the bytes, and the memory with them
-abbrev pub Wrote : (out : List ℕ) (at : ℕ) (bytes after : List ℕ) (next : ℕ) → Type 0
-Wrote out at bs after next = (next ≡ at + length bs) × (after ≡ written out at bs)
 
 module _ (out : List ℕ) (at : ℕ) (a : List ℕ) where
   -- what stands before the bytes, and they
@@ -50,33 +46,74 @@ written-none out at =
     let z : at + 0 ≡ at = omega arith in
     ap₂ _++_ (append-nil (take at out)) (ap (λ n. drop n out) z) ∙ take-append-drop at out
 
--- a store of one byte, and others after it
-pub written-next : (out : List ℕ) (at b : ℕ) (bs : List ℕ) → at < length out → written (set out at b) (at + 1) bs ≡ written out at (b ∷ bs)
+-- ---- the memory after some bytes at a place are written, and the place after them
+pub record Wrote (out : List ℕ) (at : ℕ) (bytes after : List ℕ) (next : ℕ) : Type 0 where
+  pub place : next ≡ at + length bytes
+  pub memory : after ≡ written out at bytes
+
+pub wrote : {out bytes after : List ℕ} {at next : ℕ} → (next ≡ at + length bytes) × (after ≡ written out at bytes)
+    → Wrote out at bytes after next
+wrote (p, q) = record { place = p; memory = q }
+
+pub contract : {out bytes after : List ℕ} {at next : ℕ} → Wrote out at bytes after next
+    → (next ≡ at + length bytes) × (after ≡ written out at bytes)
+contract w = (w .place, w .memory)
+
+-- nothing is written
+pub wrote-none : (out : List ℕ) (at : ℕ) → Wrote out at [] out at
+wrote-none out at = record { place = omega arith; memory = sym (written-none out at) }
+
+-- a store of one byte
+pub wrote-byte : (out : List ℕ) (at b : ℕ) → at < length out → Wrote out at (b ∷ []) (set out at b) (at + 1)
 unfolding written
-written-next out at b bs h =
+wrote-byte out at b h =
     let z : suc at ≡ at + 1 = omega arith in
-    let e : set out at b ≡ written out at (b ∷ []) =
-        set-split out at b h ∙ ap (λ n. take at out ++ b ∷ drop n out) z ∙ sym (append-assoc (take at out) (b ∷ []) _) in
-    ap (λ o. written o (at + 1) bs) e ∙ written-then out at (b ∷ []) bs (omega arith)
+    record {
+      place = refl;
+      memory = set-split out at b h ∙ ap (λ n. take at out ++ b ∷ drop n out) z ∙ sym (append-assoc (take at out) (b ∷ []) _);
+    }
 
-pub wrote-then : (out : List ℕ) (at : ℕ) (a b : List ℕ) {mid last : List ℕ} {next end : ℕ} → at ≤ length out
-    → Wrote out at a mid next → Wrote mid next b last end → Wrote out at (a ++ b) last end
-wrote-then out at a b h (p, q) (r, s) =
-    (omega (arith, length-append a b), s ∙ ap₂ (λ o n. written o n b) q p ∙ written-then out at a b h)
+-- some bytes, then others
+pub wrote-then : {out a mid b last : List ℕ} {at next end : ℕ} → at ≤ length out → Wrote out at a mid next → Wrote mid next b last end
+    → Wrote out at (a ++ b) last end
+wrote-then {out} {a} {b = b} {at = at} h v w =
+    record {
+      place = omega (arith, length-append a b, v .place, w .place);
+      memory = w .memory ∙ ap₂ (λ o n. written o n b) (v .memory) (v .place) ∙ written-then out at a b h;
+    }
 
--- ---- a turn of a loop that writes the bytes that are left
-pub byte-written : (out : List ℕ) (at : ℕ) (bytes : List ℕ) (i : ℕ) → at + i < length out → i < length bytes
-    → written (set out (at + i) (getD bytes i 0)) (at + (i + 1)) (drop (i + 1) bytes) ≡ written out (at + i) (drop i bytes)
-byte-written out at bytes i h l =
-    let e : at + (i + 1) ≡ at + i + 1 = omega arith in
-    ap (λ n. written (set out (at + i) (getD bytes i 0)) n (drop (i + 1) bytes)) e
-    ∙ written-next out (at + i) (getD bytes i 0) (drop (i + 1) bytes) h
-    ∙ ap (written out (at + i)) (sym (left-next bytes i 0 l))
+-- of some bytes and others the first are written, and the others are left
+pub wrote-rest : {out a mid b last : List ℕ} {at next end : ℕ} → at ≤ length out → Wrote out at (a ++ b) last end → Wrote out at a mid next
+    → Wrote mid next b last end
+wrote-rest {out} {a} {b = b} {at = at} h w v =
+    record {
+      place = omega (arith, length-append a b, v .place, w .place);
+      memory = w .memory ∙ sym (written-then out at a b h) ∙ sym (ap₂ (λ o n. written o n b) (v .memory) (v .place));
+    }
 
-pub none-left : (out : List ℕ) (at : ℕ) {bs : List ℕ} → bs ≡ [] → written out at bs ≡ out
-none-left out at e = ap (written out at) e ∙ written-none out at
+-- nothing is left
+pub wrote-all : {out last : List ℕ} {at end : ℕ} → Wrote out at [] last end → (at ≡ end) × (out ≡ last)
+wrote-all {out} {at = at} w = (omega (arith, w .place), sym (w .memory ∙ written-none out at))
 
--- the digits that are left before turn i of the loop over the table; first is the highest power's bound
+-- ---- the loop that copies bytes: those from i on are left
+abbrev pub BytesLeft : (out : List ℕ) (at : ℕ) (bytes : List ℕ) (i : ℕ) (last : List ℕ) (end : ℕ) → Type 0
+BytesLeft out at bytes i last end = Wrote out (at + i) (drop i bytes) last end
+
+module _ (out : List ℕ) (at : ℕ) (bytes : List ℕ) where
+  pub bytes-begin : BytesLeft out at bytes 0 (written out at bytes) (at + length bytes)
+  bytes-begin =
+      let z : at ≡ at + 0 = omega arith in
+      record { place = omega arith; memory = ap (λ n. written out n bytes) z }
+
+  pub bytes-next : (i : ℕ) {last : List ℕ} {end : ℕ} → at + i < length out → i < length bytes → BytesLeft out at bytes i last end
+      → BytesLeft (set out (at + i) (getD bytes i 0)) at bytes (i + 1) last end
+  bytes-next i {last} {end} h l w =
+      let e : at + i + 1 ≡ at + (i + 1) = omega arith in
+      let k : at + i ≤ length out = omega arith in
+      subst (λ n. Wrote (set out (at + i) (getD bytes i 0)) n (drop (i + 1) bytes) last end) e
+      (wrote-rest {a = getD bytes i 0 ∷ []} k (rw (left-next bytes i 0 l) at w) (wrote-byte out (at + i) (getD bytes i 0) h))
+
+-- ---- the loop over the table: the digits are left at the powers from i on that are at most first
 abbrev pub digitsLeft : (n first i : ℕ) → List ℕ
 digitsLeft n first i = map (digitAt n) (keep (λ p. leb p first) (drop i tens))
 
@@ -87,8 +124,13 @@ module _ (n first i : ℕ) (h : i < length tens) where
       ap (λ ps. map (digitAt n) (keep (λ p. leb p first) ps)) (left-next tens i 0 h)
       ∙ ap (λ b. map (digitAt n) (cons-if b (getD tens i 0) (keep (λ p. leb p first) (drop (i + 1) tens)))) e
 
-  pub digit-due : getD tens i 0 ≤ first → digitsLeft n first i ≡ digitAt n (getD tens i 0) ∷ digitsLeft n first (i + 1)
-  digit-due l = digits-left (le-leb (getD tens i 0) first l)
+  pub digit-next : {out last : List ℕ} {at end : ℕ} → at < length out → getD tens i 0 ≤ first → Wrote out at (digitsLeft n first i) last end
+      → Wrote (set out at (digitAt n (getD tens i 0))) (at + 1) (digitsLeft n first (i + 1)) last end
+  digit-next {out} {at = at} k l w =
+      let p = getD tens i 0 in
+      let k' : at ≤ length out = omega arith in
+      wrote-rest {a = digitAt n p ∷ []} k' (rw (digits-left (le-leb p first l)) at w) (wrote-byte out at (digitAt n p) k)
 
-  pub no-digit : first < getD tens i 0 → digitsLeft n first i ≡ digitsLeft n first (i + 1)
-  no-digit l = digits-left (lt-leb (getD tens i 0) first l)
+  pub digit-none : {out last : List ℕ} {at end : ℕ} → first < getD tens i 0 → Wrote out at (digitsLeft n first i) last end
+      → Wrote out at (digitsLeft n first (i + 1)) last end
+  digit-none l w = rw (digits-left (lt-leb (getD tens i 0) first l)) at w

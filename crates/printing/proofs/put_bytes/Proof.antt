@@ -6,7 +6,7 @@ use native.Mathlib.Omega.{arith}
 use lib.ListN.{length, drop, length-set, drop-of-length-le}
 use borrow.Author.Needs.{needs}
 use Rattle.printing.specs.Printed.{written}
-use Rattle.printing.specs.PrintedLaws.{byte-written, none-left}
+use Rattle.printing.specs.PrintedLaws.{BytesLeft, bytes-begin, bytes-next, wrote-all}
 use Rattle.printing.proofs.put_bytes.Statement.{statement}
 use Rattle.printing.proofs.put_bytes.Tie as tie
 use Rattle.printing.proofs.put_bytes.Reads as reads
@@ -14,13 +14,13 @@ use Rattle.printing.proofs.put_bytes.Lts as lts
 
 abbrev Inv-loop : tie.InvT-loop
 Inv-loop out₀ at bytes i₀ i-end out i =
-    (i ≤ length bytes) × (length out ≡ length out₀) × (written out (at + i) (drop i bytes) ≡ written out₀ at bytes)
+    (i ≤ length bytes) × (length out ≡ length out₀) × BytesLeft out at bytes i (written out₀ at bytes) (at + length bytes)
 
 abbrev μ-loop : tie.MeasureT-loop
 μ-loop out₀ at bytes i₀ i-end out i = length bytes - i
 
 loop-holds : tie.Need-loop-holds Inv-loop μ-loop
-loop-holds c = ?
+loop-holds c = (omega arith, refl, bytes-begin (c .args .out .now) (c .args .at) (c .args .bytes .now))
 
 shared-slice-read-out : tie.Need-shared-slice-read-out Inv-loop μ-loop
 shared-slice-read-out c = search needs
@@ -38,7 +38,13 @@ loop-less : tie.Need-loop-less Inv-loop μ-loop
 loop-less c = search needs
 
 loop-again : tie.Need-loop-again Inv-loop μ-loop
-loop-again c = ?
+loop-again c =
+    let l = c .before .before in
+    let a = l .before .args in (
+      omega arith,
+      length-set (l .loop .out) _ _ ∙ l .loop .inv .1,
+      bytes-next (l .loop .out) (a .at) (a .bytes .now) (l .loop .i) (omega arith) (omega arith) (l .loop .inv .2),
+    )
 
 add-result : tie.Need-add-result Inv-loop μ-loop
 add-result c = search needs
@@ -47,7 +53,9 @@ same-length : tie.Need-same-length Inv-loop μ-loop
 same-length c = search needs
 
 returns : tie.Need-returns Inv-loop μ-loop
-returns c = ?
+returns c =
+    let l = c .before in
+    (refl, wrote-all (rw (drop-of-length-le (l .before .args .bytes .now) {i = l .loop .i} (omega arith)) at (l .loop .inv .2)) .1)
 
 pub put-bytes-spec : {M : Type 1} → statement M
 put-bytes-spec =

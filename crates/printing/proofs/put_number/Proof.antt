@@ -6,9 +6,9 @@ use Prim.Native.Nat.{_≤_, _+_, _-_, max}
 use native.Mathlib.Omega.{arith}
 use lib.ListN.{length, drop, length-set, drop-of-length-le}
 use borrow.Author.Needs.{needs}
-use Rattle.printing.specs.Printed.{decimal, written}
+use Rattle.printing.specs.Printed.{tens, decimal, written}
 use Rattle.printing.specs.Powers.{tens-positive}
-use Rattle.printing.specs.PrintedLaws.{digitsLeft, digit-due, no-digit, none-left}
+use Rattle.printing.specs.PrintedLaws.{Wrote, digitsLeft, digit-next, digit-none, wrote-all}
 use Rattle.printing.proofs.put_number.Statement.{statement}
 use Rattle.printing.proofs.put_number.Tie as tie
 use Rattle.printing.proofs.put_number.Reads as reads
@@ -17,14 +17,17 @@ use Rattle.printing.proofs.put_number.Lts as lts
 abbrev Inv-loop : tie.InvT-loop
 Inv-loop out₀ at n first end₀ i₀ out end i =
     ((i ≤ 10) × (length out ≡ length out₀) × (end + (10 - i) ≤ length out))
-    × (end + length (digitsLeft n (max 1 n) i) ≡ at + length (decimal n))
-    × (written out end (digitsLeft n (max 1 n) i) ≡ written out₀ at (decimal n))
+    × Wrote out end (digitsLeft n (max 1 n) i) (written out₀ at (decimal n)) (at + length (decimal n))
 
 abbrev μ-loop : tie.MeasureT-loop
 μ-loop out₀ at n first end₀ i₀ out end i = 10 - i
 
+first-is : (c : tie.Joined1 Inv-loop μ-loop) → c .if1 .first ≡ max 1 (c .before .args .n)
+first-is c = ⊎-elim (λ w. omega arith) (λ w. omega arith) (c .if1 .came)
+
 loop-holds : tie.Need-loop-holds Inv-loop μ-loop
-loop-holds c = ?
+unfolding decimal
+loop-holds c = ((omega arith, refl, omega arith), record { place = refl; memory = refl })
 
 mul-p : tie.Need-mul-p Inv-loop μ-loop
 mul-p c = search needs
@@ -33,7 +36,7 @@ array-read-p : tie.Need-array-read-p Inv-loop μ-loop
 array-read-p c = search needs
 
 div-out : tie.Need-div-out Inv-loop μ-loop
-div-out c = ?
+div-out c = tens-positive (c .before .before .loop .i) (omega arith)
 
 add-out : tie.Need-add-out Inv-loop μ-loop
 add-out c = search needs
@@ -54,13 +57,27 @@ loop-less : tie.Need-loop-less Inv-loop μ-loop
 loop-less c = search needs
 
 loop-again : tie.Need-loop-again Inv-loop μ-loop
-loop-again c = ?
+loop-again c =
+    let l = c .before .before in
+    let n = l .before .before .args .n in
+    let i = l .loop .i in
+    let f = first-is (l .before) in
+    ⊎-elim
+    (λ w.
+      let k : length (c .if2 .out) ≡ length (l .loop .out) = ap length (w .1) ∙ length-set (l .loop .out) _ _ in
+      ((omega arith, omega arith, omega arith), rw (w .1, w .2) (digit-next n (max 1 n) i (omega arith) (omega arith) (omega arith) (l .loop .inv .1))))
+    (λ w.
+      let k : length (c .if2 .out) ≡ length (l .loop .out) = ap length (w .1) in
+      ((omega arith, omega arith, omega arith), rw (w .1, w .2) (digit-none n (max 1 n) i (omega arith) (omega arith) (l .loop .inv .1))))
+    (c .if2 .came)
 
 same-length : tie.Need-same-length Inv-loop μ-loop
 same-length c = search needs
 
 returns : tie.Need-returns Inv-loop μ-loop
-returns c = ?
+returns c =
+    let l = c .before in
+    wrote-all (rw (drop-of-length-le tens {i = l .loop .i} (omega arith)) at (l .loop .inv .1))
 
 pub put-number-spec : {M : Type 1} → statement M
 put-number-spec =
