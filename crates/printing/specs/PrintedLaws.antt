@@ -1,16 +1,19 @@
 -- Laws of printed rows: bytes that are written one after the other, and how long rows are. Assumes nothing.
 use mathlib.Core.Path.{_≡_, refl, sym, ap, ap₂, subst, _∙_}
-use mathlib.Core.Bool.{Bool}
+use mathlib.Core.Logic.{⊎-elim}
+use mathlib.Core.Bool.{Bool, false}
 use mathlib.Core.List.{List, [], _∷_, _++_, map, append-assoc, append-nil}
 use Prim.Native.Nat.{ℕ, zero, suc, _+_, _*_, _-_, _≤_, _<_}
 use native.Mathlib.Omega.{arith}
 use lib.Dec.{leb}
-use lib.ListN.{length, take, drop, set, getD, length-append, length-drop, take-append-drop}
-use lib.Seq.{length-take-le, take-at, drop-at, drop-append-add, drop-drop, set-split}
-use borrow.Author.Tests.{le-leb, lt-leb}
+use lib.ListN.{length, take, drop, set, getD, length-append, length-drop, take-append-drop, drop-of-length-le}
+use lib.Seq.{getD-drop, length-take-le, take-all, take-at, drop-at, drop-append-add, drop-drop, set-split}
+use borrow.Author.Tests.{le-leb, lt-leb, leb-true, leb-false}
 use Rattle.lists.specs.Lists.{cons-if, keep}
+use Rattle.lists.specs.Tests.{either}
 use Rattle.lists.specs.Loops.{left-next}
-use Rattle.printing.specs.Printed.{tens, digitAt, written}
+use Rattle.printing.specs.Printed.{tens, digitAt, slotRow, slotRows, slotRowMost, written}
+use Rattle.printing.specs.Powers.{decimal-most}
 
 module _ (out : List ℕ) (at : ℕ) (a : List ℕ) where
   -- what stands before the bytes, and they
@@ -26,10 +29,9 @@ module _ (out : List ℕ) (at : ℕ) (a : List ℕ) where
       let l : length (front ++ drop (at + length a) out) ≡ length front + length (drop (at + length a) out) = length-append front _ in
       omega (arith, l, front-length (omega arith), length-drop (at + length a) out)
 
-  -- bytes, and others after them, are both
-  pub written-then : (b : List ℕ) → at ≤ length out → written (written out at a) (at + length a) b ≡ written out at (a ++ b)
+  then-inside : (b : List ℕ) → at ≤ length out → written (written out at a) (at + length a) b ≡ written out at (a ++ b)
   unfolding written
-  written-then b h =
+  then-inside b h =
       let n = at + length a in
       let rest = drop n out in
       let e : length front ≡ n = front-length h in
@@ -38,6 +40,24 @@ module _ (out : List ℕ) (at : ℕ) (a : List ℕ) where
       ap₂ (λ p q. p ++ b ++ q) (take-at front rest n e)
           (ap (λ m. drop m (front ++ rest)) k ∙ drop-append-add front rest (length b) ∙ drop-drop (length b) n out ∙ ap (λ m. drop m out) s)
       ∙ ap (λ p. p ++ drop (at + length (a ++ b)) out) (append-assoc (take at out) a b)
+
+-- past the end, what is written is joined on
+written-past : (out : List ℕ) (at : ℕ) (a : List ℕ) → length out ≤ at → written out at a ≡ out ++ a
+unfolding written
+written-past out at a h =
+    ap₂ (λ p q. p ++ a ++ q) (take-all at out h) (drop-of-length-le out {i = at + length a} (omega arith)) ∙ append-nil (out ++ a)
+
+-- bytes, and others after them, are both
+pub written-then : (out : List ℕ) (at : ℕ) (a b : List ℕ) → written (written out at a) (at + length a) b ≡ written out at (a ++ b)
+written-then out at a b = ⊎-elim (λ e. then-inside out at a b (leb-true at (length out) e)) past (either (leb at (length out)))
+  where
+    past : leb at (length out) ≡ false → written (written out at a) (at + length a) b ≡ written out at (a ++ b)
+    past e =
+        let l : length out ≤ at = omega (arith, leb-false at (length out) e) in
+        ap (λ o. written o (at + length a) b) (written-past out at a l)
+        ∙ written-past (out ++ a) (at + length a) b (omega (arith, length-append out a))
+        ∙ append-assoc out a b
+        ∙ sym (written-past out at (a ++ b) l)
 
 -- nothing is written
 pub written-none : (out : List ℕ) (at : ℕ) → written out at [] ≡ out
@@ -74,21 +94,21 @@ wrote-byte out at b h =
     }
 
 -- some bytes, then others
-pub wrote-then : {out a mid b last : List ℕ} {at next end : ℕ} → at ≤ length out → Wrote out at a mid next → Wrote mid next b last end
+pub wrote-then : {out a mid b last : List ℕ} {at next end : ℕ} → Wrote out at a mid next → Wrote mid next b last end
     → Wrote out at (a ++ b) last end
-wrote-then {out} {a} {b = b} {at = at} h v w =
+wrote-then {out} {a} {b = b} {at = at} v w =
     record {
       place = omega (arith, length-append a b, v .place, w .place);
-      memory = w .memory ∙ ap₂ (λ o n. written o n b) (v .memory) (v .place) ∙ written-then out at a b h;
+      memory = w .memory ∙ ap₂ (λ o n. written o n b) (v .memory) (v .place) ∙ written-then out at a b;
     }
 
 -- of some bytes and others the first are written, and the others are left
-pub wrote-rest : {out a mid b last : List ℕ} {at next end : ℕ} → at ≤ length out → Wrote out at (a ++ b) last end → Wrote out at a mid next
+pub wrote-rest : {out a mid b last : List ℕ} {at next end : ℕ} → Wrote out at (a ++ b) last end → Wrote out at a mid next
     → Wrote mid next b last end
-wrote-rest {out} {a} {b = b} {at = at} h w v =
+wrote-rest {out} {a} {b = b} {at = at} w v =
     record {
       place = omega (arith, length-append a b, v .place, w .place);
-      memory = w .memory ∙ sym (written-then out at a b h) ∙ sym (ap₂ (λ o n. written o n b) (v .memory) (v .place));
+      memory = w .memory ∙ sym (written-then out at a b) ∙ sym (ap₂ (λ o n. written o n b) (v .memory) (v .place));
     }
 
 -- nothing is left
@@ -109,9 +129,8 @@ module _ (out : List ℕ) (at : ℕ) (bytes : List ℕ) where
       → BytesLeft (set out (at + i) (getD bytes i 0)) at bytes (i + 1) last end
   bytes-next i {last} {end} h l w =
       let e : at + i + 1 ≡ at + (i + 1) = omega arith in
-      let k : at + i ≤ length out = omega arith in
       subst (λ n. Wrote (set out (at + i) (getD bytes i 0)) n (drop (i + 1) bytes) last end) e
-      (wrote-rest {a = getD bytes i 0 ∷ []} k (rw (left-next bytes i 0 l) at w) (wrote-byte out (at + i) (getD bytes i 0) h))
+      (wrote-rest {a = getD bytes i 0 ∷ []} (rw (left-next bytes i 0 l) at w) (wrote-byte out (at + i) (getD bytes i 0) h))
 
 -- ---- the loop over the table: the digits are left at the powers from i on that are at most first
 abbrev pub digitsLeft : (n first i : ℕ) → List ℕ
@@ -128,9 +147,25 @@ module _ (n first i : ℕ) (h : i < length tens) where
       → Wrote (set out at (digitAt n (getD tens i 0))) (at + 1) (digitsLeft n first (i + 1)) last end
   digit-next {out} {at = at} k l w =
       let p = getD tens i 0 in
-      let k' : at ≤ length out = omega arith in
-      wrote-rest {a = digitAt n p ∷ []} k' (rw (digits-left (le-leb p first l)) at w) (wrote-byte out at (digitAt n p) k)
+      wrote-rest {a = digitAt n p ∷ []} (rw (digits-left (le-leb p first l)) at w) (wrote-byte out at (digitAt n p) k)
 
   pub digit-none : {out last : List ℕ} {at end : ℕ} → first < getD tens i 0 → Wrote out at (digitsLeft n first i) last end
       → Wrote out at (digitsLeft n first (i + 1)) last end
   digit-none l w = rw (digits-left (lt-leb (getD tens i 0) first l)) at w
+
+-- ---- the loop over the records: those from a word on are left
+pub rows-next : (plan : List ℕ) (word left : ℕ) → 0 < left
+    → slotRows left (drop word plan)
+    ≡ slotRow (getD plan word 0) (getD plan (word + 1) 0) (getD plan (word + 2) 0) (getD plan (word + 3) 0)
+    ++ slotRows (left - 1) (drop (word + 4) plan)
+unfolding slotRows
+rows-next plan word zero h = absurd (omega arith)
+rows-next plan word (suc m) h =
+    let z : word + 0 ≡ word = omega arith in
+    let e : m ≡ suc m - 1 = omega arith in
+    rw (getD-drop word plan 0 0, z, getD-drop word plan 1 0, getD-drop word plan 2 0, getD-drop word plan 3 0, drop-drop 4 word plan, e)
+
+pub slot-row-most : (stream job start len : ℕ) → length (slotRow stream job start len) ≤ slotRowMost
+unfolding slotRow
+slot-row-most stream job start len =
+    simp length-append (omega (arith, decimal-most stream, decimal-most job, decimal-most start, decimal-most len))

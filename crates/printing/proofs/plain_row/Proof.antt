@@ -40,9 +40,8 @@ returns c =
     let empty = last .before .before .before .before in
     let verb = empty .before .before .before .before .before in
     contract
-    (wrote-then (omega arith)
-    (wrote-then (omega arith) (wrote (verb .put-bytes .ensures))
-    (wrote-then (omega arith) (wrote (empty .put-bytes2 .ensures)) (wrote (last .put-field .ensures))))
+    (wrote-then (wrote-then (wrote (verb .put-bytes .ensures))
+    (wrote-then (wrote (empty .put-bytes2 .ensures)) (wrote (last .put-field .ensures))))
     (wrote (end .put-bytes3 .ensures)))
 
 pub plain-row-spec : {M : Type 1} → statement M

@@ -27,7 +27,7 @@ returns : tie.Need-returns
 returns c =
     let w = c .before .before in
     let a = w .before .before .before .args in
-    contract (wrote-then (omega arith) (wrote-byte (a .out .now) (a .at) 44 (omega arith)) (wrote (w .put-number .ensures)))
+    contract (wrote-then (wrote-byte (a .out .now) (a .at) 44 (omega arith)) (wrote (w .put-number .ensures)))
 
 pub put-field-spec : {M : Type 1} → statement M
 put-field-spec =

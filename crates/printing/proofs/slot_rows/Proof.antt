@@ -1,0 +1,105 @@
+-- `printing::slot_rows` meets its contract. The invariant: to write the rows that are left gives what all of them give.
+-- Assumes nothing.
+use mathlib.Core.Path.{_≡_, refl, sym, ap, _∙_}
+use Prim.Native.Nat.{_≤_, _+_, _*_, _-_}
+use native.Mathlib.Omega.{arith}
+use lib.ListN.{length, drop}
+use borrow.Author.Needs.{needs}
+use Rattle.printing.specs.Printed.{slotRows, slotRowMost, written}
+use Rattle.printing.specs.PrintedLaws.{Wrote, wrote, wrote-rest, wrote-all, rows-next, slot-row-most}
+use Rattle.printing.proofs.slot_rows.Statement.{statement}
+use Rattle.printing.proofs.slot_rows.Tie as tie
+use Rattle.printing.proofs.slot_rows.Reads as reads
+use Rattle.printing.proofs.slot_rows.Lts as lts
+use Rattle.printing.proofs.slot_row.Reads as slot-row-reads
+
+abbrev Inv-loop : tie.InvT-loop
+Inv-loop out₀ at plan count end₀ word₀ left₀ out end word left =
+    ((word + 4 * left ≤ length plan) × (end + slotRowMost * left ≤ length out) × (length out ≡ length out₀))
+    × Wrote out end (slotRows left (drop word plan)) (written out₀ at (slotRows count plan)) (at + length (slotRows count plan))
+
+abbrev μ-loop : tie.MeasureT-loop
+μ-loop out₀ at plan count end₀ word₀ left₀ out end word left = left
+
+loop-holds : tie.Need-loop-holds Inv-loop μ-loop
+loop-holds c = ?
+
+mul-slot-row : tie.Need-mul-slot-row Inv-loop μ-loop
+mul-slot-row c = search needs
+
+shared-slice-read-slot-row : tie.Need-shared-slice-read-slot-row Inv-loop μ-loop
+shared-slice-read-slot-row c = search needs
+
+add-slot-row : tie.Need-add-slot-row Inv-loop μ-loop
+add-slot-row c = search needs
+
+mul-slot-row-2 : tie.Need-mul-slot-row-2 Inv-loop μ-loop
+mul-slot-row-2 c = search needs
+
+shared-slice-read-slot-row-2 : tie.Need-shared-slice-read-slot-row-2 Inv-loop μ-loop
+shared-slice-read-slot-row-2 c = search needs
+
+add-slot-row-2 : tie.Need-add-slot-row-2 Inv-loop μ-loop
+add-slot-row-2 c = search needs
+
+mul-slot-row-3 : tie.Need-mul-slot-row-3 Inv-loop μ-loop
+mul-slot-row-3 c = search needs
+
+shared-slice-read-slot-row-3 : tie.Need-shared-slice-read-slot-row-3 Inv-loop μ-loop
+shared-slice-read-slot-row-3 c = search needs
+
+add-slot-row-3 : tie.Need-add-slot-row-3 Inv-loop μ-loop
+add-slot-row-3 c = search needs
+
+mul-slot-row-4 : tie.Need-mul-slot-row-4 Inv-loop μ-loop
+mul-slot-row-4 c = search needs
+
+shared-slice-read-slot-row-4 : tie.Need-shared-slice-read-slot-row-4 Inv-loop μ-loop
+shared-slice-read-slot-row-4 c = search needs
+
+slot-row-requires : tie.Need-slot-row-requires Inv-loop μ-loop
+slot-row-requires c κs = search needs
+
+add-word : tie.Need-add-word Inv-loop μ-loop
+add-word c = search needs
+
+sub-left : tie.Need-sub-left Inv-loop μ-loop
+sub-left c = search needs
+
+loop-less : tie.Need-loop-less Inv-loop μ-loop
+loop-less c = search needs
+
+loop-again : tie.Need-loop-again Inv-loop μ-loop
+loop-again c = ?
+
+same-length : tie.Need-same-length Inv-loop μ-loop
+same-length c = search needs
+
+returns : tie.Need-returns Inv-loop μ-loop
+returns c = ?
+
+pub slot-rows-spec : {M : Type 1} → statement M
+slot-rows-spec =
+    tie.close
+    (tie.spec
+    Inv-loop
+    μ-loop
+    loop-holds
+    mul-slot-row
+    shared-slice-read-slot-row
+    add-slot-row
+    mul-slot-row-2
+    shared-slice-read-slot-row-2
+    add-slot-row-2
+    mul-slot-row-3
+    shared-slice-read-slot-row-3
+    add-slot-row-3
+    mul-slot-row-4
+    shared-slice-read-slot-row-4
+    slot-row-requires
+    add-word
+    sub-left
+    loop-less
+    loop-again
+    same-length
+    returns)
