@@ -12,7 +12,7 @@ use borrow.Author.Tests.{le-leb, lt-leb, leb-true, leb-false}
 use Rattle.lists.specs.Lists.{cons-if, keep}
 use Rattle.lists.specs.Tests.{either}
 use Rattle.lists.specs.Loops.{left-next}
-use Rattle.printing.specs.Printed.{tens, digitAt, slotRow, slotRows, slotRowMost, written}
+use Rattle.printing.specs.Printed.{tens, digitAt, plainRow, streamRow, slotRow, slotRows, plainMost, streamMost, slotRowMost, written}
 use Rattle.printing.specs.Powers.{decimal-most}
 
 module _ (out : List ℕ) (at : ℕ) (a : List ℕ) where
@@ -115,6 +115,28 @@ wrote-rest {out} {a} {b = b} {at = at} w v =
 pub wrote-all : {out last : List ℕ} {at end : ℕ} → Wrote out at [] last end → (at ≡ end) × (out ≡ last)
 wrote-all {out} {at = at} w = (omega (arith, w .place), sym (w .memory ∙ written-none out at))
 
+-- ---- how long rows are
+module _ (verb : List ℕ) (answer : ℕ) where
+  pub plain-row-most : length (plainRow verb answer) ≤ length verb + plainMost
+  unfolding plainRow
+  plain-row-most = simp length-append (omega (arith, decimal-most answer))
+
+  pub stream-row-most : (stream : ℕ) → length (streamRow verb stream answer) ≤ length verb + streamMost
+  unfolding streamRow
+  stream-row-most stream = simp length-append (omega (arith, decimal-most stream, decimal-most answer))
+
+pub slot-row-most : (stream job start len : ℕ) → length (slotRow stream job start len) ≤ slotRowMost
+unfolding slotRow
+slot-row-most stream job start len =
+    simp length-append (omega (arith, decimal-most stream, decimal-most job, decimal-most start, decimal-most len))
+
+pub slot-rows-most : (n : ℕ) (ws : List ℕ) → length (slotRows n ws) ≤ slotRowMost * n
+unfolding slotRows
+slot-rows-most zero ws = omega arith
+slot-rows-most (suc n) ws =
+    let r = slotRow (getD ws 0 0) (getD ws 1 0) (getD ws 2 0) (getD ws 3 0) in
+    omega (arith, length-append r (slotRows n (drop 4 ws)), slot-row-most (getD ws 0 0) (getD ws 1 0) (getD ws 2 0) (getD ws 3 0), slot-rows-most n (drop 4 ws))
+
 -- ---- the loop that copies bytes: those from i on are left
 abbrev pub BytesLeft : (out : List ℕ) (at : ℕ) (bytes : List ℕ) (i : ℕ) (last : List ℕ) (end : ℕ) → Type 0
 BytesLeft out at bytes i last end = Wrote out (at + i) (drop i bytes) last end
@@ -154,18 +176,17 @@ module _ (n first i : ℕ) (h : i < length tens) where
   digit-none l w = rw (digits-left (lt-leb (getD tens i 0) first l)) at w
 
 -- ---- the loop over the records: those from a word on are left
+abbrev rowAt : List ℕ → ℕ → List ℕ
+rowAt plan word = slotRow (getD plan word 0) (getD plan (word + 1) 0) (getD plan (word + 2) 0) (getD plan (word + 3) 0)
+
 pub rows-next : (plan : List ℕ) (word left : ℕ) → 0 < left
-    → slotRows left (drop word plan)
-    ≡ slotRow (getD plan word 0) (getD plan (word + 1) 0) (getD plan (word + 2) 0) (getD plan (word + 3) 0)
-    ++ slotRows (left - 1) (drop (word + 4) plan)
+    → slotRows left (drop word plan) ≡ rowAt plan word ++ slotRows (left - 1) (drop (word + 4) plan)
 unfolding slotRows
 rows-next plan word zero h = absurd (omega arith)
 rows-next plan word (suc m) h =
     let z : word + 0 ≡ word = omega arith in
-    let e : m ≡ suc m - 1 = omega arith in
+    let e : suc m - 1 ≡ m = omega arith in
     rw (getD-drop word plan 0 0, z, getD-drop word plan 1 0, getD-drop word plan 2 0, getD-drop word plan 3 0, drop-drop 4 word plan, e)
 
-pub slot-row-most : (stream job start len : ℕ) → length (slotRow stream job start len) ≤ slotRowMost
-unfolding slotRow
-slot-row-most stream job start len =
-    simp length-append (omega (arith, decimal-most stream, decimal-most job, decimal-most start, decimal-most len))
+pub row-most : (plan : List ℕ) (word : ℕ) → length (rowAt plan word) ≤ slotRowMost
+row-most plan word = slot-row-most (getD plan word 0) (getD plan (word + 1) 0) (getD plan (word + 2) 0) (getD plan (word + 3) 0)

@@ -6,7 +6,7 @@ use native.Mathlib.Omega.{arith}
 use lib.ListN.{length, drop}
 use borrow.Author.Needs.{needs}
 use Rattle.printing.specs.Printed.{slotRows, slotRowMost, written}
-use Rattle.printing.specs.PrintedLaws.{Wrote, wrote, wrote-rest, wrote-all, rows-next, slot-row-most}
+use Rattle.printing.specs.PrintedLaws.{Wrote, wrote, wrote-rest, wrote-all, rows-next, row-most}
 use Rattle.printing.proofs.slot_rows.Statement.{statement}
 use Rattle.printing.proofs.slot_rows.Tie as tie
 use Rattle.printing.proofs.slot_rows.Reads as reads
@@ -22,7 +22,7 @@ abbrev μ-loop : tie.MeasureT-loop
 μ-loop out₀ at plan count end₀ word₀ left₀ out end word left = left
 
 loop-holds : tie.Need-loop-holds Inv-loop μ-loop
-loop-holds c = ?
+loop-holds c = ((omega arith, omega arith, refl), record { place = refl; memory = refl })
 
 mul-slot-row : tie.Need-mul-slot-row Inv-loop μ-loop
 mul-slot-row c = search needs
@@ -70,13 +70,23 @@ loop-less : tie.Need-loop-less Inv-loop μ-loop
 loop-less c = search needs
 
 loop-again : tie.Need-loop-again Inv-loop μ-loop
-loop-again c = ?
+loop-again c =
+    let w = c .before .before in
+    let l = w .before .before .before .before .before .before .before in
+    let plan = l .before .before .before .args .plan .now in
+    let left = rw (rows-next plan (l .loop .word) (l .loop .left) (omega arith)) at (l .loop .inv .1) in
+    let room = row-most plan (l .loop .word) in
+    ((omega arith, omega arith, omega arith), wrote-rest left (wrote (w .slot-row .ensures)))
 
 same-length : tie.Need-same-length Inv-loop μ-loop
 same-length c = search needs
 
 returns : tie.Need-returns Inv-loop μ-loop
-returns c = ?
+unfolding slotRows
+returns c =
+    let l = c .before in
+    let z : l .loop .left ≡ 0 = omega arith in
+    wrote-all (rw z at (l .loop .inv .1))
 
 pub slot-rows-spec : {M : Type 1} → statement M
 slot-rows-spec =
