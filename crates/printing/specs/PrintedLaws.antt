@@ -12,7 +12,8 @@ use borrow.Author.Tests.{le-leb, lt-leb, leb-true, leb-false}
 use Rattle.lists.specs.Lists.{cons-if, keep}
 use Rattle.lists.specs.Tests.{either}
 use Rattle.lists.specs.Loops.{left-next}
-use Rattle.printing.specs.Printed.{tens, digitAt, plainRow, streamRow, slotRow, slotRows, plainMost, streamMost, slotRowMost, written}
+use Rattle.printing.specs.Printed.{tens, digitAt, decimal, headerRow, plainRow, streamRow, slotRow, slotRows, written}
+use Rattle.printing.specs.Printed.{numberMost, headerMost, plainMost, streamMost, slotRowMost}
 use Rattle.printing.specs.Powers.{decimal-most}
 
 module _ (out : List ℕ) (at : ℕ) (a : List ℕ) where
@@ -23,12 +24,6 @@ module _ (out : List ℕ) (at : ℕ) (a : List ℕ) where
   front-length : at ≤ length out → length front ≡ at + length a
   front-length h = length-append (take at out) a ∙ ap (λ n. n + length a) (length-take-le at out h)
 
-  pub written-length : at + length a ≤ length out → length (written out at a) ≡ length out
-  unfolding written
-  written-length h =
-      let l : length (front ++ drop (at + length a) out) ≡ length front + length (drop (at + length a) out) = length-append front _ in
-      omega (arith, l, front-length (omega arith), length-drop (at + length a) out)
-
   then-inside : (b : List ℕ) → at ≤ length out → written (written out at a) (at + length a) b ≡ written out at (a ++ b)
   unfolding written
   then-inside b h =
@@ -38,7 +33,7 @@ module _ (out : List ℕ) (at : ℕ) (a : List ℕ) where
       let k : n + length b ≡ length front + length b = omega arith in
       let s : n + length b ≡ at + length (a ++ b) = omega (arith, length-append a b) in
       ap₂ (λ p q. p ++ b ++ q) (take-at front rest n e)
-          (ap (λ m. drop m (front ++ rest)) k ∙ drop-append-add front rest (length b) ∙ drop-drop (length b) n out ∙ ap (λ m. drop m out) s)
+      (ap (λ m. drop m (front ++ rest)) k ∙ drop-append-add front rest (length b) ∙ drop-drop (length b) n out ∙ ap (λ m. drop m out) s)
       ∙ ap (λ p. p ++ drop (at + length (a ++ b)) out) (append-assoc (take at out) a b)
 
 -- past the end, what is written is joined on
@@ -116,6 +111,13 @@ pub wrote-all : {out last : List ℕ} {at end : ℕ} → Wrote out at [] last en
 wrote-all {out} {at = at} w = (omega (arith, w .place), sym (w .memory ∙ written-none out at))
 
 -- ---- how long rows are
+pub header-row-length : length headerRow ≡ headerMost
+header-row-length = refl
+
+-- where a field has been printed, its number is no longer than any
+pub field-most : (out after : List ℕ) (at n : ℕ) → after ≡ written out at (44 ∷ decimal n) → length (decimal n) ≤ numberMost
+field-most out after at n e = decimal-most n
+
 module _ (verb : List ℕ) (answer : ℕ) where
   pub plain-row-most : length (plainRow verb answer) ≤ length verb + plainMost
   unfolding plainRow
@@ -134,8 +136,8 @@ pub slot-rows-most : (n : ℕ) (ws : List ℕ) → length (slotRows n ws) ≤ sl
 unfolding slotRows
 slot-rows-most zero ws = omega arith
 slot-rows-most (suc n) ws =
-    let r = slotRow (getD ws 0 0) (getD ws 1 0) (getD ws 2 0) (getD ws 3 0) in
-    omega (arith, length-append r (slotRows n (drop 4 ws)), slot-row-most (getD ws 0 0) (getD ws 1 0) (getD ws 2 0) (getD ws 3 0), slot-rows-most n (drop 4 ws))
+    let first = slot-row-most (getD ws 0 0) (getD ws 1 0) (getD ws 2 0) (getD ws 3 0) in
+    simp length-append (omega (arith, first, slot-rows-most n (drop 4 ws)))
 
 -- ---- the loop that copies bytes: those from i on are left
 abbrev pub BytesLeft : (out : List ℕ) (at : ℕ) (bytes : List ℕ) (i : ℕ) (last : List ℕ) (end : ℕ) → Type 0

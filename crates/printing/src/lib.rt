@@ -9,13 +9,27 @@ ghost use Rattle.printing.specs.Printed.{decimal, headerRow, plainRow, s
 
 // The most bytes of a row after its verb, and of a record's row.
 pub const HEADER_MOST: usize = 36;
+
 pub const PLAIN_MOST: usize = 17;
+
 pub const STREAM_MOST: usize = 27;
+
 pub const SLOT_ROW_MOST: usize = 51;
 
-const TENS: [u32; 10] = [1000000000, 100000000, 10000000, 1000000, 100000, 10000, 1000, 100, 10, 1];
+const TENS: [u32; 10] = [
+    1000000000,
+    100000000,
+    10000000,
+    1000000,
+    100000,
+    10000,
+    1000,
+    100,
+    10,
+    1,
+];
 
-const HEADER: [u8; 36] = *b"row,stream,job,start,length,answer\r\n";
+const HEADER: [u8; HEADER_MOST] = *b"row,stream,job,start,length,answer\r\n";
 
 const COMMA: u8 = 44;
 
@@ -69,8 +83,8 @@ pub fn plain_row(out: &mut [u8], at: usize, verb: &[u8], answer: u32) -> usize
     ensures { λ r. ⌜ (r ≡ at + length (plainRow (now (verb .entry)) answer))
         × (now (out .exit) ≡ written (now (out .entry)) at (plainRow (now (verb .entry)) answer)) ⌝ }
 {
-    let stream = put_bytes(out, at, verb);
-    let last = put_bytes(out, stream, b",,,,");
+    let second = put_bytes(out, at, verb);
+    let last = put_bytes(out, second, b",,,,");
     let end = put_field(out, last, answer);
     put_bytes(out, end, b"\r\n")
 }
@@ -94,12 +108,12 @@ fn slot_row(out: &mut [u8], at: usize, stream: u32, job: u32, start: u32, length
     ensures { λ r. ⌜ (r ≡ at + lib.ListN.length (slotRow stream job start length))
         × (now (out .exit) ≡ written (now (out .entry)) at (slotRow stream job start length)) ⌝ }
 {
-    let a = put_bytes(out, at, b"slot");
-    let b = put_field(out, a, stream);
-    let c = put_field(out, b, job);
-    let d = put_field(out, c, start);
-    let e = put_field(out, d, length);
-    put_bytes(out, e, b",\r\n")
+    let second = put_bytes(out, at, b"slot");
+    let third = put_field(out, second, stream);
+    let fourth = put_field(out, third, job);
+    let fifth = put_field(out, fourth, start);
+    let last = put_field(out, fifth, length);
+    put_bytes(out, last, b",\r\n")
 }
 
 // A row for each of a plan's first records.
@@ -112,7 +126,14 @@ pub fn slot_rows(out: &mut [u8], at: usize, plan: &[u32], count: usize) -> usize
     let mut word = 0;
     let mut left = count;
     while 0 < left {
-        end = slot_row(out, end, plan[word], plan[word + 1], plan[word + 2], plan[word + 3]);
+        end = slot_row(
+            out,
+            end,
+            plan[word],
+            plan[word + 1],
+            plan[word + 2],
+            plan[word + 3],
+        );
         word += 4;
         left -= 1;
     }

@@ -1,15 +1,10 @@
--- `printing::plain_row` meets its contract: the verb, then four empty fields, then the answer, then the end of the row. Assumes nothing.
+-- `printing::plain_row` meets its contract: verb, four empty fields, answer and end of the row. Assumes nothing.
 use native.Mathlib.Omega.{arith}
 use borrow.Author.Needs.{needs}
 use Rattle.printing.specs.Printed.{plainRow}
-use Rattle.printing.specs.Powers.{decimal-most}
-use Rattle.printing.specs.PrintedLaws.{wrote, contract, wrote-then}
+use Rattle.printing.specs.PrintedLaws.{field-most, wrote, contract, wrote-then}
 use Rattle.printing.proofs.plain_row.Statement.{statement}
 use Rattle.printing.proofs.plain_row.Tie as tie
-use Rattle.printing.proofs.plain_row.Reads as reads
-use Rattle.printing.proofs.plain_row.Lts as lts
-use Rattle.printing.proofs.put_bytes.Reads as put-bytes-reads
-use Rattle.printing.proofs.put_field.Reads as put-field-reads
 
 put-bytes-requires : tie.Need-put-bytes-requires
 put-bytes-requires c κs = search needs
@@ -27,7 +22,7 @@ slice-aggregate-put-bytes-2 : tie.Need-slice-aggregate-put-bytes-2
 slice-aggregate-put-bytes-2 c = search needs
 
 put-bytes-requires-3 : tie.Need-put-bytes-requires-3
-put-bytes-requires-3 c κs = omega (arith, decimal-most (c .before .before .before .before .before .before .before .before .before .before .before .before .before .before .before .before .before .args .answer))
+put-bytes-requires-3 c κs = omega (arith, field-most)
 
 same-length : tie.Need-same-length
 same-length c = search needs
@@ -40,7 +35,9 @@ returns c =
     let empty = last .before .before .before .before in
     let verb = empty .before .before .before .before .before in
     contract
-    (wrote-then (wrote-then (wrote (verb .put-bytes .ensures))
+    (wrote-then
+    (wrote-then
+    (wrote (verb .put-bytes .ensures))
     (wrote-then (wrote (empty .put-bytes2 .ensures)) (wrote (last .put-field .ensures))))
     (wrote (end .put-bytes3 .ensures)))
 

@@ -9,8 +9,6 @@ use Rattle.printing.specs.Printed.{written}
 use Rattle.printing.specs.PrintedLaws.{BytesLeft, bytes-begin, bytes-next, wrote-all}
 use Rattle.printing.proofs.put_bytes.Statement.{statement}
 use Rattle.printing.proofs.put_bytes.Tie as tie
-use Rattle.printing.proofs.put_bytes.Reads as reads
-use Rattle.printing.proofs.put_bytes.Lts as lts
 
 abbrev Inv-loop : tie.InvT-loop
 Inv-loop out₀ at bytes i₀ i-end out i =

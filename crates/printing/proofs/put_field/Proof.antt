@@ -5,9 +5,6 @@ use borrow.Author.Needs.{needs}
 use Rattle.printing.specs.PrintedLaws.{wrote, contract, wrote-byte, wrote-then}
 use Rattle.printing.proofs.put_field.Statement.{statement}
 use Rattle.printing.proofs.put_field.Tie as tie
-use Rattle.printing.proofs.put_field.Reads as reads
-use Rattle.printing.proofs.put_field.Lts as lts
-use Rattle.printing.proofs.put_number.Reads as put-number-reads
 
 slice-write-out : tie.Need-slice-write-out
 slice-write-out c = search needs

@@ -11,8 +11,6 @@ use Rattle.printing.specs.Powers.{tens-positive}
 use Rattle.printing.specs.PrintedLaws.{Wrote, digitsLeft, digit-next, digit-none, wrote-all}
 use Rattle.printing.proofs.put_number.Statement.{statement}
 use Rattle.printing.proofs.put_number.Tie as tie
-use Rattle.printing.proofs.put_number.Reads as reads
-use Rattle.printing.proofs.put_number.Lts as lts
 
 abbrev Inv-loop : tie.InvT-loop
 Inv-loop out₀ at n first end₀ i₀ out end i =
@@ -62,13 +60,14 @@ loop-again c =
     let n = l .before .before .args .n in
     let i = l .loop .i in
     let f = first-is (l .before) in
+    let left = l .loop .inv .1 in
     ⊎-elim
     (λ w.
-      let k : length (c .if2 .out) ≡ length (l .loop .out) = ap length (w .1) ∙ length-set (l .loop .out) _ _ in
-      ((omega arith, omega arith, omega arith), rw (w .1, w .2) (digit-next n (max 1 n) i (omega arith) (omega arith) (omega arith) (l .loop .inv .1))))
+    let k : length (c .if2 .out) ≡ length (l .loop .out) = ap length (w .1) ∙ length-set (l .loop .out) _ _ in
+    (omega arith, rw (w .1, w .2) (digit-next n (max 1 n) i (omega arith) (omega arith) (omega arith) left)))
     (λ w.
-      let k : length (c .if2 .out) ≡ length (l .loop .out) = ap length (w .1) in
-      ((omega arith, omega arith, omega arith), rw (w .1, w .2) (digit-none n (max 1 n) i (omega arith) (omega arith) (l .loop .inv .1))))
+    let k : length (c .if2 .out) ≡ length (l .loop .out) = ap length (w .1) in
+    (omega arith, rw (w .1, w .2) (digit-none n (max 1 n) i (omega arith) (omega arith) left)))
     (c .if2 .came)
 
 same-length : tie.Need-same-length Inv-loop μ-loop

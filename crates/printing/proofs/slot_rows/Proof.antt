@@ -9,9 +9,6 @@ use Rattle.printing.specs.Printed.{slotRows, slotRowMost, written}
 use Rattle.printing.specs.PrintedLaws.{Wrote, wrote, wrote-rest, wrote-all, rows-next, row-most}
 use Rattle.printing.proofs.slot_rows.Statement.{statement}
 use Rattle.printing.proofs.slot_rows.Tie as tie
-use Rattle.printing.proofs.slot_rows.Reads as reads
-use Rattle.printing.proofs.slot_rows.Lts as lts
-use Rattle.printing.proofs.slot_row.Reads as slot-row-reads
 
 abbrev Inv-loop : tie.InvT-loop
 Inv-loop out₀ at plan count end₀ word₀ left₀ out end word left =

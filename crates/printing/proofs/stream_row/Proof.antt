@@ -1,15 +1,10 @@
--- `printing::stream_row` meets its contract: the verb, then the stream, three empty fields, the answer and the end of the row. Assumes nothing.
+-- `printing::stream_row` meets its contract: verb, stream, three empty fields, answer and end of the row. Assumes nothing.
 use native.Mathlib.Omega.{arith}
 use borrow.Author.Needs.{needs}
 use Rattle.printing.specs.Printed.{streamRow}
-use Rattle.printing.specs.Powers.{decimal-most}
-use Rattle.printing.specs.PrintedLaws.{wrote, contract, wrote-then}
+use Rattle.printing.specs.PrintedLaws.{field-most, wrote, contract, wrote-then}
 use Rattle.printing.proofs.stream_row.Statement.{statement}
 use Rattle.printing.proofs.stream_row.Tie as tie
-use Rattle.printing.proofs.stream_row.Reads as reads
-use Rattle.printing.proofs.stream_row.Lts as lts
-use Rattle.printing.proofs.put_bytes.Reads as put-bytes-reads
-use Rattle.printing.proofs.put_field.Reads as put-field-reads
 
 put-bytes-requires : tie.Need-put-bytes-requires
 put-bytes-requires c κs = search needs
@@ -21,18 +16,16 @@ slice-aggregate-put-bytes : tie.Need-slice-aggregate-put-bytes
 slice-aggregate-put-bytes c = search needs
 
 put-bytes-requires-2 : tie.Need-put-bytes-requires-2
-put-bytes-requires-2 c κs = omega (arith, decimal-most (c .before .before .before .before .before .before .before .before .before .before .before .before .args .stream))
+put-bytes-requires-2 c κs = omega (arith, field-most)
 
 put-field-requires-2 : tie.Need-put-field-requires-2
-put-field-requires-2 c κs = omega (arith, decimal-most (c .before .before .before .before .before .before .before .before .before .before .before .before .before .before .before .before .args .stream))
+put-field-requires-2 c κs = omega (arith, field-most)
 
 slice-aggregate-put-bytes-2 : tie.Need-slice-aggregate-put-bytes-2
 slice-aggregate-put-bytes-2 c = search needs
 
 put-bytes-requires-3 : tie.Need-put-bytes-requires-3
-put-bytes-requires-3 c κs =
-    let a = c .before .before .before .before .before .before .before .before .before .before .before .before .before .before .before .before .before .before .before .before .before .args in
-    omega (arith, decimal-most (a .stream), decimal-most (a .answer))
+put-bytes-requires-3 c κs = omega (arith, field-most)
 
 same-length : tie.Need-same-length
 same-length c = search needs
@@ -46,7 +39,8 @@ returns c =
     let field = empty .before .before .before .before .before in
     let verb = field .before .before .before .before in
     contract
-    (wrote-then (wrote-then
+    (wrote-then
+    (wrote-then
     (wrote-then (wrote (verb .put-bytes .ensures)) (wrote (field .put-field .ensures)))
     (wrote-then (wrote (empty .put-bytes2 .ensures)) (wrote (last .put-field2 .ensures))))
     (wrote (end .put-bytes3 .ensures)))
