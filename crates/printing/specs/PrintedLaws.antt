@@ -6,8 +6,8 @@ use mathlib.Core.List.{List, [], _∷_, _++_, map, append-assoc, append-nil}
 use Prim.Native.Nat.{ℕ, zero, suc, _+_, _*_, _-_, _≤_, _<_}
 use native.Mathlib.Omega.{arith}
 use lib.Dec.{leb}
-use lib.ListN.{length, take, drop, set, getD, length-append, length-drop, take-append-drop, drop-of-length-le}
-use lib.Seq.{getD-drop, length-take-le, take-all, take-at, drop-at, drop-append-add, drop-drop, set-split}
+use lib.ListN.{length, take, drop, set, getD, length-append, take-append-drop, drop-of-length-le}
+use lib.Seq.{getD-drop, length-take-le, take-all, take-at, drop-append-add, drop-drop, set-split}
 use borrow.Author.Tests.{le-leb, lt-leb, leb-true, leb-false}
 use Rattle.lists.specs.Lists.{cons-if, keep}
 use Rattle.lists.specs.Tests.{either}
@@ -73,10 +73,6 @@ wrote (p, q) = record { place = p; memory = q }
 pub contract : {out bytes after : List ℕ} {at next : ℕ} → Wrote out at bytes after next
     → (next ≡ at + length bytes) × (after ≡ written out at bytes)
 contract w = (w .place, w .memory)
-
--- nothing is written
-pub wrote-none : (out : List ℕ) (at : ℕ) → Wrote out at [] out at
-wrote-none out at = record { place = omega arith; memory = sym (written-none out at) }
 
 -- a store of one byte
 pub wrote-byte : (out : List ℕ) (at b : ℕ) → at < length out → Wrote out at (b ∷ []) (set out at b) (at + 1)
@@ -156,26 +152,26 @@ module _ (out : List ℕ) (at : ℕ) (bytes : List ℕ) where
       subst (λ n. Wrote (set out (at + i) (getD bytes i 0)) n (drop (i + 1) bytes) last end) e
       (wrote-rest {a = getD bytes i 0 ∷ []} (rw (left-next bytes i 0 l) at w) (wrote-byte out (at + i) (getD bytes i 0) h))
 
--- ---- the loop over the table: the digits are left at the powers from i on that are at most first
-abbrev pub digitsLeft : (n first i : ℕ) → List ℕ
-digitsLeft n first i = map (digitAt n) (keep (λ p. leb p first) (drop i tens))
+-- ---- the loop over the table: the digits are left at the powers from i on that are at most bound
+abbrev pub digitsLeft : (n bound i : ℕ) → List ℕ
+digitsLeft n bound i = map (digitAt n) (keep (λ p. leb p bound) (drop i tens))
 
-module _ (n first i : ℕ) (h : i < length tens) where
-  digits-left : {b : Bool} → leb (getD tens i 0) first ≡ b
-      → digitsLeft n first i ≡ map (digitAt n) (cons-if b (getD tens i 0) (keep (λ p. leb p first) (drop (i + 1) tens)))
+module _ (n bound i : ℕ) (h : i < length tens) where
+  digits-left : {b : Bool} → leb (getD tens i 0) bound ≡ b
+      → digitsLeft n bound i ≡ map (digitAt n) (cons-if b (getD tens i 0) (keep (λ p. leb p bound) (drop (i + 1) tens)))
   digits-left e =
-      ap (λ ps. map (digitAt n) (keep (λ p. leb p first) ps)) (left-next tens i 0 h)
-      ∙ ap (λ b. map (digitAt n) (cons-if b (getD tens i 0) (keep (λ p. leb p first) (drop (i + 1) tens)))) e
+      ap (λ ps. map (digitAt n) (keep (λ p. leb p bound) ps)) (left-next tens i 0 h)
+      ∙ ap (λ b. map (digitAt n) (cons-if b (getD tens i 0) (keep (λ p. leb p bound) (drop (i + 1) tens)))) e
 
-  pub digit-next : {out last : List ℕ} {at end : ℕ} → at < length out → getD tens i 0 ≤ first → Wrote out at (digitsLeft n first i) last end
-      → Wrote (set out at (digitAt n (getD tens i 0))) (at + 1) (digitsLeft n first (i + 1)) last end
+  pub digit-next : {out last : List ℕ} {at end : ℕ} → at < length out → getD tens i 0 ≤ bound → Wrote out at (digitsLeft n bound i) last end
+      → Wrote (set out at (digitAt n (getD tens i 0))) (at + 1) (digitsLeft n bound (i + 1)) last end
   digit-next {out} {at = at} k l w =
       let p = getD tens i 0 in
-      wrote-rest {a = digitAt n p ∷ []} (rw (digits-left (le-leb p first l)) at w) (wrote-byte out at (digitAt n p) k)
+      wrote-rest {a = digitAt n p ∷ []} (rw (digits-left (le-leb p bound l)) at w) (wrote-byte out at (digitAt n p) k)
 
-  pub digit-none : {out last : List ℕ} {at end : ℕ} → first < getD tens i 0 → Wrote out at (digitsLeft n first i) last end
-      → Wrote out at (digitsLeft n first (i + 1)) last end
-  digit-none l w = rw (digits-left (lt-leb (getD tens i 0) first l)) at w
+  pub digit-none : {out last : List ℕ} {at end : ℕ} → bound < getD tens i 0 → Wrote out at (digitsLeft n bound i) last end
+      → Wrote out at (digitsLeft n bound (i + 1)) last end
+  digit-none l w = rw (digits-left (lt-leb (getD tens i 0) bound l)) at w
 
 -- ---- the loop over the records: those from a word on are left
 abbrev rowAt : List ℕ → ℕ → List ℕ

@@ -1,7 +1,7 @@
 // Rows of text in lent memory. Each function writes at a place and answers the place after what it wrote; every other byte stays as it
 // was. The caller lends room for the longest row.
 ghost use mathlib.Core.Path.{_≡_};
-ghost use mathlib.Core.List.{[], _∷_};
+ghost use mathlib.Core.List.{_∷_};
 ghost use Prim.Native.Nat.{_+_, _*_, _≤_};
 ghost use lib.ListN.{length};
 ghost use Rattle.printing.specs.Printed.{numberMost, headerMost, plainMost, streamMost, slotRowMost};
@@ -49,11 +49,11 @@ fn put_number(out: &mut [u8], at: usize, n: u32) -> usize
     requires { ⌜ at + numberMost ≤ length (now out) ⌝ }
     ensures { λ r. ⌜ (r ≡ at + length (decimal n)) × (now (out .exit) ≡ written (now (out .entry)) at (decimal n)) ⌝ }
 {
-    let first = if n == 0 { 1 } else { n };
+    let bound = if n == 0 { 1 } else { n };
     let mut end = at;
     for i in 0..10 {
         let p = TENS[i];
-        if p <= first {
+        if p <= bound {
             out[end] = (48 + n / p % 10) as u8;
             end += 1;
         }

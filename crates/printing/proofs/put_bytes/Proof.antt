@@ -1,9 +1,9 @@
 -- `printing::put_bytes` meets its contract. The invariant: to write the bytes that are left gives what all of them give.
 -- Assumes nothing.
-use mathlib.Core.Path.{_≡_, refl, sym, ap, _∙_}
+use mathlib.Core.Path.{_≡_, refl, _∙_}
 use Prim.Native.Nat.{_≤_, _+_, _-_}
 use native.Mathlib.Omega.{arith}
-use lib.ListN.{length, drop, length-set, drop-of-length-le}
+use lib.ListN.{length, length-set, drop-of-length-le}
 use borrow.Author.Needs.{needs}
 use Rattle.printing.specs.Printed.{written}
 use Rattle.printing.specs.PrintedLaws.{BytesLeft, bytes-begin, bytes-next, wrote-all}

@@ -1,10 +1,10 @@
 -- `printing::put_number` meets its contract. The invariant: to write the digits that are left gives what all of them give.
 -- Assumes nothing.
-use mathlib.Core.Path.{_≡_, refl, sym, ap, _∙_}
+use mathlib.Core.Path.{_≡_, refl, ap, _∙_}
 use mathlib.Core.Logic.{⊎-elim}
 use Prim.Native.Nat.{_≤_, _+_, _-_, max}
 use native.Mathlib.Omega.{arith}
-use lib.ListN.{length, drop, length-set, drop-of-length-le}
+use lib.ListN.{length, length-set, drop-of-length-le}
 use borrow.Author.Needs.{needs}
 use Rattle.printing.specs.Printed.{tens, decimal, written}
 use Rattle.printing.specs.Powers.{tens-positive}
@@ -13,15 +13,15 @@ use Rattle.printing.proofs.put_number.Statement.{statement}
 use Rattle.printing.proofs.put_number.Tie as tie
 
 abbrev Inv-loop : tie.InvT-loop
-Inv-loop out₀ at n first end₀ i₀ out end i =
+Inv-loop out₀ at n bound end₀ i₀ out end i =
     ((i ≤ 10) × (length out ≡ length out₀) × (end + (10 - i) ≤ length out))
     × Wrote out end (digitsLeft n (max 1 n) i) (written out₀ at (decimal n)) (at + length (decimal n))
 
 abbrev μ-loop : tie.MeasureT-loop
-μ-loop out₀ at n first end₀ i₀ out end i = 10 - i
+μ-loop out₀ at n bound end₀ i₀ out end i = 10 - i
 
-first-is : (c : tie.Joined1 Inv-loop μ-loop) → c .if1 .first ≡ max 1 (c .before .args .n)
-first-is c = ⊎-elim (λ w. omega arith) (λ w. omega arith) (c .if1 .came)
+bound-is : (c : tie.Joined1 Inv-loop μ-loop) → c .if1 .bound ≡ max 1 (c .before .args .n)
+bound-is c = ⊎-elim (λ w. omega arith) (λ w. omega arith) (c .if1 .came)
 
 loop-holds : tie.Need-loop-holds Inv-loop μ-loop
 unfolding decimal
@@ -59,7 +59,7 @@ loop-again c =
     let l = c .before .before in
     let n = l .before .before .args .n in
     let i = l .loop .i in
-    let f = first-is (l .before) in
+    let f = bound-is (l .before) in
     let left = l .loop .inv .1 in
     ⊎-elim
     (λ w.
