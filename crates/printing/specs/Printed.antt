@@ -18,7 +18,7 @@ digitAt n p = 48 + n / p % 10
 unfoldable pub decimal : ℕ → List ℕ
 decimal n = map (digitAt n) (keep (λ p. leb p (max 1 n)) tens)
 
--- the most bytes of a number, of a row after its verb, and of a record's row
+-- ---- room: the most bytes of a number, of the header's row, of the two rows of calls after their verb, and of a record's row
 abbrev pub numberMost : ℕ
 numberMost = 10
 

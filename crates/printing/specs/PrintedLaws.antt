@@ -16,6 +16,7 @@ use Rattle.printing.specs.Printed.{tens, digitAt, decimal, headerRow, pl
 use Rattle.printing.specs.Printed.{numberMost, headerMost, plainMost, streamMost, slotRowMost}
 use Rattle.printing.specs.Powers.{decimal-most}
 
+-- ---- bytes in lent memory
 module _ (out : List ℕ) (at : ℕ) (a : List ℕ) where
   -- what stands before the bytes, and they
   abbrev front : List ℕ
@@ -110,7 +111,7 @@ wrote-all {out} {at = at} w = (omega (arith, w .place), sym (w .memory ∙ writt
 pub header-row-length : length headerRow ≡ headerMost
 header-row-length = refl
 
--- where a field has been printed, its number is no longer than any
+-- a rule for `omega`: where a field has been printed, its number has at most ten digits
 pub field-most : (out after : List ℕ) (at n : ℕ) → after ≡ written out at (44 ∷ decimal n) → length (decimal n) ≤ numberMost
 field-most out after at n e = decimal-most n
 

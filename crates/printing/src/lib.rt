@@ -7,7 +7,7 @@ ghost use lib.ListN.{length};
 ghost use Rattle.printing.specs.Printed.{numberMost, headerMost, plainMost, streamMost, slotRowMost};
 ghost use Rattle.printing.specs.Printed.{decimal, headerRow, plainRow, streamRow, slotRow, slotRows, written};
 
-// The most bytes of a row after its verb, and of a record's row.
+// Room that a caller lends: for the header's row, for the two rows of calls beside their verb, and for a record's row.
 pub const HEADER_MOST: usize = 36;
 
 pub const PLAIN_MOST: usize = 17;
@@ -44,7 +44,7 @@ fn put_bytes(out: &mut [u8], at: usize, bytes: &[u8]) -> usize
     at + bytes.len()
 }
 
-// The digits at the powers of ten that are at most n; 0 has the last one.
+// The digits at the powers of ten that are at most n; 0 has the last one. Powers above n cost a comparison and no division.
 fn put_number(out: &mut [u8], at: usize, n: u32) -> usize
     requires { ⌜ at + numberMost ≤ length (now out) ⌝ }
     ensures { λ r. ⌜ (r ≡ at + length (decimal n)) × (now (out .exit) ≡ written (now (out .entry)) at (decimal n)) ⌝ }
