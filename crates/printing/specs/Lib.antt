@@ -1,1 +1,4 @@
 pub mod Printed
+pub mod Powers
+pub mod PrintedLaws
+pub mod ReadBack

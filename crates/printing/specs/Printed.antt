@@ -18,6 +18,22 @@ digitAt n p = 48 + n / p % 10
 unfoldable pub decimal : ℕ → List ℕ
 decimal n = map (digitAt n) (keep (λ p. leb p (max 1 n)) tens)
 
+-- ---- room: the most bytes of a number, of the header's row, of the two rows of calls after their verb, and of a record's row
+abbrev pub numberMost : ℕ
+numberMost = 10
+
+abbrev pub headerMost : ℕ
+headerMost = 36
+
+abbrev pub plainMost : ℕ
+plainMost = 17
+
+abbrev pub streamMost : ℕ
+streamMost = 27
+
+abbrev pub slotRowMost : ℕ
+slotRowMost = 51
+
 -- ---- rows
 abbrev pub crlf : List ℕ
 crlf = 13 ∷ 10 ∷ []
