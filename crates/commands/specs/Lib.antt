@@ -1,1 +1,4 @@
 pub mod Commands
+pub mod Reads
+pub mod CommandLaws
+pub mod ReadLaws
