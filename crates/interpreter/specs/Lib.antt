@@ -1,4 +1,5 @@
 pub mod Meaning
 pub mod Room
 pub mod Cutting
+pub mod Beacons
 pub mod Whole

@@ -1,5 +1,4 @@
-use mathlib.Core.Path.{refl, sym, ap, _∙_}
-use mathlib.Core.Logic.{⊥}
+use mathlib.Core.Path.{refl}
 use Rattle.interpreter.specs.Meaning.{stateAfter, planAfter, rowsFor}
 use borrow.Author.Needs.{needs}
 use Rattle.interpreter.proofs.answer.Statement.{statement}
@@ -42,22 +41,22 @@ same-length : tie.Need-same-length
 same-length c = search needs
 
 returns : tie.Need-returns
-unfolding stateAfter planAfter rowsFor
-returns c = let k : ⊥ = c .before .before .before .before .before .c .given in absurd k
+unfolding planAfter
+returns c = let e = c .before .before .answer-open .ensures in rw (c .before .before .before .before .before .c .given .1) (e .0, (e .1 .0, (e .1 .1, refl)))
 
 same-length-2 : tie.Need-same-length-2
 same-length-2 c = search needs
 
 returns-2 : tie.Need-returns-2
-unfolding stateAfter planAfter rowsFor
-returns-2 c = let k : ⊥ = c .before .before .before .before .known-told2 .given in absurd k
+unfolding planAfter
+returns-2 c = let e = c .before .before .answer-offer .ensures in rw (c .before .before .before .before .before .c2 .given .1) (e .0, (e .1 .0, (e .1 .1, refl)))
 
 same-length-3 : tie.Need-same-length-3
 same-length-3 c = search needs
 
 returns-3 : tie.Need-returns-3
-unfolding stateAfter planAfter rowsFor
-returns-3 c = c .before .before .before .before .before .before .match
+unfolding planAfter
+returns-3 c = let e = c .before .before .answer-withdraw .ensures in rw (c .before .before .before .before .before .c3 .given .1) (e .0, (e .1 .0, (e .1 .1, refl)))
 
 same-length-4 : tie.Need-same-length-4
 same-length-4 c = search needs
@@ -66,15 +65,14 @@ same-length-5 : tie.Need-same-length-5
 same-length-5 c = search needs
 
 returns-4 : tie.Need-returns-4
-unfolding stateAfter planAfter rowsFor
-returns-4 c = let k : ⊥ = c .before .before .before .before .before .before .before .enum-told .given in absurd k
+returns-4 c = rw (c .before .before .before .before .before .before .before .enum-told .given .1) (c .before .before .before .before .answer-beacon .ensures)
 
 same-length-6 : tie.Need-same-length-6
 same-length-6 c = search needs
 
 returns-5 : tie.Need-returns-5
 unfolding stateAfter planAfter rowsFor
-returns-5 c = c .before .before .before .before .before .enum-told2
+returns-5 c = let e = c .before .before .plain-row .ensures in rw (c .before .before .before .before .before .enum-told2 .given .1) (refl, (e .0, (e .1, refl)))
 
 pub answer-spec : {M : Type 1} → statement M
 answer-spec =

@@ -1,12 +1,14 @@
+use mathlib.Core.Path.{refl, sym, ap, _∙_}
+use mathlib.Core.List.{append-nil}
+use native.Mathlib.Omega.{arith}
+use borrow.Author.Tests.{not-true, not-false}
+use Rattle.commands.specs.Commands.{beaconVerb}
+use Rattle.printing.specs.PrintedLaws.{plain-row-most, wrote, contract, wrote-then}
+use Rattle.interpreter.specs.Meaning.{withTable, stateAfter, planAfter, rowsFor}
+use Rattle.interpreter.specs.Beacons.{made}
 use borrow.Author.Needs.{needs}
 use Rattle.interpreter.proofs.answer_beacon.Statement.{statement}
 use Rattle.interpreter.proofs.answer_beacon.Tie as tie
-use Rattle.interpreter.proofs.answer_beacon.Reads as reads
-use Rattle.interpreter.proofs.answer_beacon.Lts as lts
-use Rattle.planner.proofs.beacon.Reads as beacon-reads
-use Rattle.planner.proofs.beacon_number.Reads as beacon-number-reads
-use Rattle.printing.proofs.plain_row.Reads as plain-row-reads
-use Rattle.printing.proofs.slot_rows.Reads as slot-rows-reads
 
 slice-aggregate-plain-row : tie.Need-slice-aggregate-plain-row
 slice-aggregate-plain-row c = search needs
@@ -18,10 +20,11 @@ same-length : tie.Need-same-length
 same-length c = search needs
 
 returns : tie.Need-returns
-returns c = ?
+unfolding stateAfter planAfter rowsFor
+returns c = let w = c .before .before .plain-row .ensures in rw (not-true (c .before .before .before .before .before .before .before .before .before .args .s .ready) (c .before .before .before .before .before .if1 .taken), append-nil) (refl, (w .0, (w .1, refl)))
 
 beacon-requires : tie.Need-beacon-requires
-beacon-requires c κs = ?
+beacon-requires c κs = c .before .before .before .before .before .pre .0 (not-false (c .before .before .before .before .before .args .s .ready) (c .before .if1 .left))
 
 beacon-number-requires : tie.Need-beacon-number-requires
 beacon-number-requires c κs = search needs
@@ -33,7 +36,15 @@ plain-row-requires-2 : tie.Need-plain-row-requires-2
 plain-row-requires-2 c κs = search needs
 
 slot-rows-requires : tie.Need-slot-rows-requires
-slot-rows-requires c κs = ?
+slot-rows-requires c κs =
+    let w = c .before .before .before .before .before .before .before .before .before .before .before .before .before .before .before .before .pre in
+    let m = made (w .0 (not-false (c .before .before .before .before .before .before .before .before .before .before .before .before .before .before .before .before .args .s .ready) (c .before .before .before .before .before .before .before .before .before .before .before .before .if1 .left))) (w .1 .0) (c .before .before .before .before .before .before .before .before .before .before .beacon .ensures) in
+    let k = c .before .before .before .before .before .before .before .before .before .before .beacon .kept in
+    let o = c .before .before .before .before .plain-row2 .kept in
+    let l = plain-row-most beaconVerb (c .before .before .before .before .before .before .before .beacon-number .result) in
+    let e = c .before .before .before .before .plain-row2 .ensures .0 in
+    let f = m .few in
+    (omega arith, omega arith)
 
 same-length-2 : tie.Need-same-length-2
 same-length-2 c = search needs
@@ -42,7 +53,14 @@ same-length-3 : tie.Need-same-length-3
 same-length-3 c = search needs
 
 returns-2 : tie.Need-returns-2
-returns-2 c = ?
+unfolding stateAfter planAfter rowsFor
+returns-2 c =
+    let w = c .before .before .before .before .before .before .before .before .before .before .before .before .before .before .before .before .before .before .before .before .pre in
+    let t = not-false (c .before .before .before .before .before .before .before .before .before .before .before .before .before .before .before .before .before .before .before .before .args .s .ready) (c .before .before .before .before .before .before .before .before .before .before .before .before .before .before .before .before .if1 .left) in
+    let m = made (w .0 t) (w .1 .0) (c .before .before .before .before .before .before .before .before .before .before .before .before .before .before .beacon .ensures) in
+    let n = c .before .before .before .before .before .before .before .before .before .before .before .beacon-number .ensures ∙ m .accepted in
+    let r = contract (wrote-then (wrote (c .before .before .before .before .before .before .before .before .plain-row2 .ensures)) (wrote (c .before .before .before .slot-rows .ensures))) in
+    rw (t, sym n, sym (m .rows)) (ap withTable (m .after), (r .0, (r .1, m .memory)))
 
 pub answer-beacon-spec : {M : Type 1} → statement M
 answer-beacon-spec =

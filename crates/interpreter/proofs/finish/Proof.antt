@@ -1,17 +1,21 @@
+use mathlib.Core.Path.{refl, sym, ap, _∙_}
+use native.Mathlib.Omega.{arith}
+use borrow.Author.Tests.{eq-eqb, ne-eqb}
+use Rattle.rows.specs.declared.Line.{Line}
+use Rattle.printing.specs.PrintedLaws.{written-none}
+use Rattle.interpreter.specs.Cutting.{commandIn, lastRows, lastPlan}
 use borrow.Author.Needs.{needs}
 use Rattle.interpreter.proofs.finish.Statement.{statement}
 use Rattle.interpreter.proofs.finish.Tie as tie
-use Rattle.interpreter.proofs.finish.Reads as reads
-use Rattle.interpreter.proofs.finish.Lts as lts
-use Rattle.interpreter.proofs.answer.Reads as answer-reads
-use Rattle.interpreter.proofs.command_in.Reads as command-in-reads
-use Rattle.rows.proofs.unheld.Reads as unheld-reads
 
 unheld-requires : tie.Need-unheld-requires
 unheld-requires c κs = search needs
 
 returns : tie.Need-returns
-returns c = ?
+unfolding lastRows lastPlan
+returns c =
+    let z = eq-eqb _ _ (ap (λ (l : Line). l .len) (sym (c .before .before .unheld .ensures)) ∙ c .if1 .taken) in
+    rw z (omega arith, (sym (written-none _ _), refl))
 
 command-in-requires : tie.Need-command-in-requires
 command-in-requires c κs = search needs
@@ -26,7 +30,13 @@ same-length-2 : tie.Need-same-length-2
 same-length-2 c = search needs
 
 returns-2 : tie.Need-returns-2
-returns-2 c = ?
+unfolding lastRows lastPlan
+returns-2 c =
+    let u = c .before .before .before .before .before .before .before .before .before .before .unheld .ensures in
+    let z = ne-eqb _ _ (λ q. c .before .before .before .before .before .before .before .before .if1 .left (ap (λ (l : Line). l .len) u ∙ q)) in
+    let k = c .before .before .before .before .before .before .before .command-in .ensures ∙ ap commandIn u in
+    let a = c .before .before .before .before .answer .ensures in
+    rw (z, sym k) (a .1 .0, (a .1 .1 .0, a .1 .1 .1))
 
 pub finish-spec : {M : Type 1} → statement M
 finish-spec =

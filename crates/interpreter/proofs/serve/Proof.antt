@@ -1,18 +1,25 @@
+use mathlib.Core.Path.{refl, sym, ap, _∙_}
+use native.Mathlib.Omega.{arith}
+use borrow.Author.Tests.{not-true, not-false}
+use Rattle.rows.specs.declared.Cut.{Cut}
+use Rattle.printing.specs.PrintedLaws.{written-none}
+use Rattle.interpreter.specs.declared.Shelf.{Shelf}
+use Rattle.interpreter.specs.Cutting.{commandIn, stepShelf, stepRows, stepPlan}
 use borrow.Author.Needs.{needs}
 use Rattle.interpreter.proofs.serve.Statement.{statement}
 use Rattle.interpreter.proofs.serve.Tie as tie
-use Rattle.interpreter.proofs.serve.Reads as reads
-use Rattle.interpreter.proofs.serve.Lts as lts
-use Rattle.interpreter.proofs.answer.Reads as answer-reads
-use Rattle.interpreter.proofs.command_in.Reads as command-in-reads
-use Rattle.rows.proofs.at_start.Reads as at-start-reads
-use Rattle.rows.proofs.cut_row.Reads as cut-row-reads
 
 cut-row-requires : tie.Need-cut-row-requires
 cut-row-requires c κs = search needs
 
 returns : tie.Need-returns
-returns c = ?
+unfolding stepShelf stepRows stepPlan
+returns c =
+    let e = c .before .before .before .before .cut-row .ensures in
+    let z = ap (λ (x : Cut). x .ended) (sym e) ∙ not-true (c .before .before .before .before .cut-row .result .ended) (c .if1 .taken) in
+    rw z
+    (ap (λ (x : Cut). record { reader = x .reader; state = c .before .before .before .before .before .before .before .before .args .s .state }) e
+    , (ap (λ (x : Cut). x .taken) e, (omega arith, (sym (written-none _ _), refl))))
 
 command-in-requires : tie.Need-command-in-requires
 command-in-requires c κs = search needs
@@ -30,7 +37,14 @@ same-length-2 : tie.Need-same-length-2
 same-length-2 c = search needs
 
 returns-2 : tie.Need-returns-2
-returns-2 c = ?
+unfolding stepShelf stepRows stepPlan
+returns-2 c =
+    let e = c .before .before .before .before .before .before .before .before .before .before .before .before .before .before .cut-row .ensures in
+    let z = ap (λ (x : Cut). x .ended) (sym e) ∙ not-false (c .before .before .before .before .before .before .before .before .before .before .before .before .before .before .cut-row .result .ended) (c .before .before .before .before .before .before .before .before .before .before .if1 .left) in
+    let k = c .before .before .before .before .before .before .before .before .before .command-in .ensures ∙ ap (λ (x : Cut). commandIn (x .reader .line)) e in
+    let a = c .before .before .before .before .before .before .answer .ensures in
+    rw (z, sym k)
+    (rw (c .before .at-start .ensures, a .0) refl, (ap (λ (x : Cut). x .taken) e, (a .1 .0, (a .1 .1 .0, a .1 .1 .1))))
 
 pub serve-spec : {M : Type 1} → statement M
 serve-spec =
