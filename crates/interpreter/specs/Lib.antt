@@ -2,4 +2,5 @@ pub mod Meaning
 pub mod Room
 pub mod Cutting
 pub mod Beacons
+pub mod Ready
 pub mod Whole
