@@ -47,7 +47,7 @@ module _ (fs : List (List ℕ)) where
   number-at i = sym (List·getD-map valueOf fs i [])
 
   -- the verb with its numbers, where they are there
-  abbrev pub askedIf : Verb → Command
+  abbrev askedIf : Verb → Command
   askedIf v = cond (filled (countOf v) fs) (asked v (map valueOf fs)) OtherForm
 
   module _ (v : List ℕ) where
@@ -59,7 +59,7 @@ module _ (fs : List (List ℕ)) where
     unfolding called verbOf
     unknown a b c d = rw (a, b, c, d) (sym (cond-same (filled 0 fs) OtherForm))
 
-    pub called-asked : Same
+    called-asked : Same
     unfolding called verbOf requestFrom
     called-asked =
         ⊎-elim (λ t. rw (same-list v openVerb t) (simp number-at)) (λ a.

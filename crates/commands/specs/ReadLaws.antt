@@ -1,7 +1,6 @@
--- What is read of a field, by what a loop over its digits has seen. Assumes nothing.
+-- What is read of a field and of six, by what a loop over them has seen. Assumes nothing.
 use mathlib.Core.Path.{_≡_, refl, sym, ap, ap₂, _∙_}
 use mathlib.Core.Bool.{Bool, true, false, cond}
-use mathlib.Core.Logic.{⊎-elim}
 use mathlib.Core.List.{List, [], _∷_, _++_, map, append-nil}
 use Prim.Native.Nat.{ℕ, suc, _+_, _≤_, _<_}
 use lib.Dec.{eqb}
@@ -10,7 +9,7 @@ use lib.Seq.{take-all, take-suc-set, append-snoc}
 use native.Mathlib.Numerals.{add-one}
 use native.Mathlib.Omega.{arith}
 use borrow.Author.Tests.{ne-eqb, lt-leb}
-use Rattle.lists.specs.Tests.{and-false, both-within, either, clash}
+use Rattle.lists.specs.Tests.{and-false, both-within}
 use Rattle.text.specs.Fields.{spelt, valueOf, isEmpty}
 use Rattle.text.specs.FieldLaws.{spells, is-number, fits, fitFrom, fit-all}
 use Rattle.commands.specs.Reads.{noNumber, noNumbers, fieldRead, fieldsRead}
@@ -45,17 +44,17 @@ empty-read (b ∷ bs) = rw (ne-eqb (suc (length bs)) 0 (λ e. omega arith))
 
 -- ---- what a field's answer says
 module _ (needed : Bool) (f : List ℕ) {r : Number} (e : r ≡ fieldRead needed f) where
-  told : {t : Bool} → fits needed f ≡ t → r ≡ cond t (numbered (valueOf f)) noNumber
+  pub good-fits : r .good ≡ fits needed f
   unfolding fieldRead
-  told h = e ∙ ap (λ t. cond t (numbered (valueOf f)) noNumber) h
+  good-fits = ap (λ a. a .good) e ∙ told (fits needed f)
+    where
+      told : (t : Bool) → cond t (numbered (valueOf f)) noNumber .good ≡ t
+      told true = refl
+      told false = refl
 
-  pub read-bad : r .good ≡ false → fits needed f ≡ false
-  read-bad h = ⊎-elim (λ t. absurd (clash true refl (sym (ap (λ a. a .good) (told t)) ∙ h))) (λ t. t) (either (fits needed f))
-
-  pub read-good : r .good ≡ true → (fits needed f ≡ true) × (r .value ≡ valueOf f)
-  read-good h =
-      ⊎-elim (λ t. (t, ap (λ a. a .value) (told t)))
-      (λ t. absurd (clash false (sym (ap (λ a. a .good) (told t)) ∙ h) refl)) (either (fits needed f))
+  pub good-value : r .good ≡ true → r .value ≡ valueOf f
+  unfolding fieldRead
+  good-value h = ap (λ a. a .value) e ∙ rw (sym good-fits ∙ h)
 
 -- ---- the six fields
 module _ (n : ℕ) (fs : List (List ℕ)) where

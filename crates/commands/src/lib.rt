@@ -1,10 +1,10 @@
 // What a row asks for. Document 01, "Reading, lending, printing".
+ghost use mathlib.Core.Bool.{true};
 ghost use mathlib.Core.Path.{_≡_};
 ghost use Rattle.lists.specs.Lists.{sameList};
 ghost use Rattle.text.specs.FieldLaws.{toComma, fieldsAfter};
 ghost use Rattle.commands.specs.Commands.{commandOf};
 ghost use Rattle.commands.specs.Reads.{fieldRead, fieldsRead, verbOf, countOf, asked};
-ghost use mathlib.Core.Bool.{true};
 use model::Request;
 
 pub enum Command {
@@ -15,7 +15,7 @@ pub enum Command {
     OtherForm,
 }
 
-pub enum Verb {
+enum Verb {
     Open,
     Offer,
     Withdraw,
@@ -24,15 +24,15 @@ pub enum Verb {
 }
 
 // A field as a number: 0 where it has another form.
-pub struct Number {
-    pub good: bool,
-    pub value: u32,
+struct Number {
+    good: bool,
+    value: u32,
 }
 
 // The six fields after the verb as numbers: zeros where one has another form.
-pub struct Numbers {
-    pub good: bool,
-    pub values: [u32; 6],
+struct Numbers {
+    good: bool,
+    values: [u32; 6],
 }
 
 const ROW_MOST: usize = 64;
@@ -46,7 +46,7 @@ const DIGITS_MOST: usize = 10;
 const NUMBER_MOST: u64 = 4294967295;
 
 // Where the first comma stands, or the text's length.
-pub fn first_comma(text: &[u8]) -> usize
+fn first_comma(text: &[u8]) -> usize
     ensures { λ r. ⌜ r ≡ toComma (now (text .entry)) ⌝ }
 {
     let mut i = 0;
@@ -59,8 +59,8 @@ pub fn first_comma(text: &[u8]) -> usize
     i
 }
 
-// The sum is held to 32 bits at each digit, so that no step wraps.
-pub fn read_number(field: &[u8]) -> Number
+// A value past 32 bits is refused at its first digit too many, so that no step wraps.
+fn read_number(field: &[u8]) -> Number
     ensures { λ r. ⌜ r ≡ fieldRead true (now (field .entry)) ⌝ }
 {
     let none = Number {
@@ -91,7 +91,7 @@ pub fn read_number(field: &[u8]) -> Number
 }
 
 // A field that is not needed is empty.
-pub fn read_field(field: &[u8], needed: bool) -> Number
+fn read_field(field: &[u8], needed: bool) -> Number
     ensures { λ r. ⌜ r ≡ fieldRead needed (now (field .entry)) ⌝ }
 {
     if needed {
@@ -103,8 +103,8 @@ pub fn read_field(field: &[u8], needed: bool) -> Number
     }
 }
 
-// Each field stands after its comma: the text begins with the first of them, and ends with the last field.
-pub fn read_fields(text: &[u8], count: usize) -> Numbers
+// The text is six times a comma and a field.
+fn read_fields(text: &[u8], count: usize) -> Numbers
     ensures { λ r. ⌜ r ≡ fieldsRead count (fieldsAfter (now (text .entry))) ⌝ }
 {
     let none = Numbers {
@@ -133,13 +133,14 @@ pub fn read_fields(text: &[u8], count: usize) -> Numbers
     Numbers { good: true, values }
 }
 
-pub fn is_verb(field: &[u8], verb: &[u8]) -> bool
+// The library's comparison, as an equation.
+fn is_verb(field: &[u8], verb: &[u8]) -> bool
     ensures { λ r. ⌜ r ≡ sameList (now (field .entry)) (now (verb .entry)) ⌝ }
 {
     check::same(field, verb)
 }
 
-pub fn verb_of(field: &[u8]) -> Verb
+fn verb_of(field: &[u8]) -> Verb
     ensures { λ r. ⌜ r ≡ verbOf (now (field .entry)) ⌝ }
 {
     if is_verb(field, b"open") {
@@ -158,7 +159,7 @@ pub fn verb_of(field: &[u8]) -> Verb
 }
 
 // How many numbers a verb needs.
-pub fn count_of(verb: Verb) -> usize
+fn count_of(verb: Verb) -> usize
     ensures { λ r. ⌜ r ≡ countOf verb ⌝ }
 {
     match verb {
@@ -170,7 +171,8 @@ pub fn count_of(verb: Verb) -> usize
     }
 }
 
-pub fn asked_for(verb: Verb, values: [u32; 6]) -> Command
+// The verb with its numbers.
+fn asked_for(verb: Verb, values: [u32; 6]) -> Command
     ensures { λ r. ⌜ r ≡ asked verb values ⌝ }
 {
     match verb {
@@ -189,6 +191,7 @@ pub fn asked_for(verb: Verb, values: [u32; 6]) -> Command
     }
 }
 
+// A row of another form has more than 64 bytes, another verb, not seven fields, or a field that is not as its verb needs it.
 pub fn command_of(row: &[u8]) -> Command
     ensures { λ r. ⌜ r ≡ commandOf (now (row .entry)) ⌝ }
 {

@@ -1,4 +1,4 @@
--- Where the fields of a text begin and end, one comma at a time, and what fields are read one by one. Assumes nothing.
+-- Laws of fields: where they begin and end, one comma at a time; numbers, one digit at a time; and six fields, one by one. Assumes nothing.
 use mathlib.Core.Path.{_≡_, refl, sym, ap, _∙_}
 use mathlib.Core.Bool.{Bool, true, false, cond, _&&_}
 use mathlib.Core.List.{List, [], _∷_}
@@ -177,6 +177,7 @@ fit-done n = refl
 -- a comma after six fields
 pub fit-over : (xs : List ℕ) (at n : ℕ) → at < length xs → fitFrom 6 n (fieldsAfter (drop at xs)) ≡ false
 unfolding fieldsAfter fitFrom
-fit-over xs at n h =
-    rw (left-next xs at 0 h, fields-first (drop (at + 1) xs))
-    (rw (ne-eqb (6 + suc (length (fieldsAfter (drop (toComma (drop (at + 1) xs)) (drop (at + 1) xs))))) 6 (λ e. omega arith)))
+fit-over xs at n h = rw (left-next xs at 0 h, fields-first (drop (at + 1) xs), seven)
+  where
+    seven : (k : ℕ) → eqb (6 + suc k) 6 ≡ false
+    seven k = ne-eqb (6 + suc k) 6 (λ e. omega arith)

@@ -10,7 +10,7 @@ use borrow.Author.Tests.{not-true, not-false}
 use Rattle.text.specs.Fields.{valueOf}
 use Rattle.text.specs.FieldLaws.{fieldsAfter, after-end, part, part-most, part-next}
 use Rattle.text.specs.FieldLaws.{fitFrom, fit-none, fit-refused, fit-passed, fit-over, fit-done}
-use Rattle.commands.specs.ReadLaws.{read-bad, read-good, fields-bad, fields-good, value-kept, values-kept}
+use Rattle.commands.specs.ReadLaws.{good-fits, good-value, fields-bad, fields-good, value-kept, values-kept}
 use Rattle.commands.proofs.read_fields.Statement.{statement}
 use Rattle.commands.proofs.read_fields.Tie as tie
 
@@ -82,7 +82,7 @@ returns-2 : tie.Need-returns-2 Inv-loop μ-loop
 returns-2 c =
     let r = c .before .before in
     let a = r .before .before in
-    let f = read-bad _ _ (r .read-field .ensures) (not-true _ (c .if2 .taken)) in
+    let f = sym (good-fits _ _ (r .read-field .ensures)) ∙ not-true _ (c .if2 .taken) in
     fields-bad _ _ (sym (a .before .before .before .before .loop .inv .3) ∙ rw (next a) (fit-refused _ _ _ _ f))
 
 mul-values : tie.Need-mul-values Inv-loop μ-loop
@@ -102,12 +102,13 @@ loop-again c =
     let r = c .before .before in
     let a = r .before .before in
     let d = a .before .before .before .before .loop in
-    let g = read-good _ _ (r .read-field .ensures) (not-false _ (c .if2 .left)) in (
+    let e = r .read-field .ensures in
+    let g = not-false _ (c .if2 .left) in (
       omega arith,
       inside a,
       length-set (d .values) (d .i) _ ∙ d .inv .2,
-      sym (fit-passed _ _ _ _ (g .0)) ∙ sym (ap (fitFrom _ _) (next a)) ∙ d .inv .3,
-      value-kept (d .values) (d .i) _ _ (omega arith) (g .1) (next a) (d .inv .4),
+      sym (fit-passed _ _ _ _ (sym (good-fits _ _ e) ∙ g)) ∙ sym (ap (fitFrom _ _) (next a)) ∙ d .inv .3,
+      value-kept (d .values) (d .i) _ _ (omega arith) (good-value _ _ e g) (next a) (d .inv .4),
     )
 
 returns-3 : tie.Need-returns-3 Inv-loop μ-loop
