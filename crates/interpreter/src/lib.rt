@@ -142,7 +142,8 @@ pub fn answer(s: State, c: Command, plan: &mut [u32], out: &mut [u8], at: usize)
 
 // ---- rows of the input
 pub fn first_shelf() -> Shelf
-    ensures { λ r. ⌜ r ≡ firstShelf ⌝ }
+    ensures is { λ r. ⌜ r ≡ firstShelf ⌝ }
+    ensures formed { λ r. ⌜ Ready (r .state) ⌝ }
 {
     let none = planner::open(0);
     let table = none.table;
@@ -170,9 +171,10 @@ pub fn serve(s: Shelf, chunk: &[u8], plan: &mut [u32], out: &mut [u8], at: usize
     requires { ⌜ Ready (s .state) ⌝ }
     requires { ⌜ planWords ≤ length (now plan) ⌝ }
     requires { ⌜ at + answerMost ≤ length (now out) ⌝ }
-    ensures { λ r. let bs = now (chunk .entry) in let rows = stepRows s bs in
+    ensures is { λ r. let bs = now (chunk .entry) in let rows = stepRows s bs in
         ⌜ (r .shelf ≡ stepShelf s bs) × ((r .taken ≡ cutOf s bs .taken) × ((r .at ≡ at + length rows)
         × ((now (out .exit) ≡ written (now (out .entry)) at rows) × (now (plan .exit) ≡ stepPlan s bs (now (plan .entry)))))) ⌝ }
+    ensures formed { λ r. ⌜ Ready (r .shelf .state) ⌝ }
 {
     let c = rows::cut_row(s.reader, chunk);
     let reader = c.reader;

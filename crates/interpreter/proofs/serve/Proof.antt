@@ -1,10 +1,13 @@
-use mathlib.Core.Path.{refl, sym, ap, _∙_}
+use mathlib.Core.Path.{_≡_, refl, sym, subst, ap, _∙_}
 use native.Mathlib.Omega.{arith}
+use denote.Ref.{now}
 use borrow.Author.Tests.{not-true, not-false}
 use Rattle.rows.specs.declared.Cut.{Cut}
 use Rattle.printing.specs.PrintedLaws.{written-none}
 use Rattle.interpreter.specs.declared.Shelf.{Shelf}
+use Rattle.interpreter.specs.Room.{Ready}
 use Rattle.interpreter.specs.Cutting.{commandIn, stepShelf, stepRows, stepPlan}
+use Rattle.interpreter.specs.Ready.{ready-step}
 use borrow.Author.Needs.{needs}
 use Rattle.interpreter.proofs.serve.Statement.{statement}
 use Rattle.interpreter.proofs.serve.Tie as tie
@@ -17,9 +20,11 @@ unfolding stepShelf stepRows stepPlan
 returns c =
     let e = c .before .before .before .before .cut-row .ensures in
     let z = ap (λ (x : Cut). x .ended) (sym e) ∙ not-true (c .before .before .before .before .cut-row .result .ended) (c .if1 .taken) in
-    rw z
-    (ap (λ (x : Cut). record { reader = x .reader; state = c .before .before .before .before .before .before .before .before .args .s .state }) e
-    , (ap (λ (x : Cut). x .taken) e, (omega arith, (sym (written-none _ _), refl))))
+    let s = c .before .before .before .before .before .before .before .before .args .s in
+    let after : record { reader = c .before .before .before .before .cut-row .result .reader; state = s .state } ≡ stepShelf s (now (c .before .before .before .before .before .before .before .before .args .chunk)) =
+        rw z (ap (λ (x : Cut). record { reader = x .reader; state = s .state }) e) in
+    ((after, rw z (ap (λ (x : Cut). x .taken) e, (omega arith, (sym (written-none _ _), refl))))
+    , subst (λ (x : Shelf). Ready (x .state)) (sym after) (ready-step s _ (c .before .before .before .before .before .before .before .before .pre .0)))
 
 command-in-requires : tie.Need-command-in-requires
 command-in-requires c κs = search needs
@@ -43,8 +48,11 @@ returns-2 c =
     let z = ap (λ (x : Cut). x .ended) (sym e) ∙ not-false (c .before .before .before .before .before .before .before .before .before .before .before .before .before .before .cut-row .result .ended) (c .before .before .before .before .before .before .before .before .before .before .if1 .left) in
     let k = c .before .before .before .before .before .before .before .before .before .command-in .ensures ∙ ap (λ (x : Cut). commandIn (x .reader .line)) e in
     let a = c .before .before .before .before .before .before .answer .ensures in
-    rw (z, sym k)
-    (rw (c .before .at-start .ensures, a .0) refl, (ap (λ (x : Cut). x .taken) e, (a .1 .0, (a .1 .1 .0, a .1 .1 .1))))
+    let s = c .before .before .before .before .before .before .before .before .before .before .before .before .before .before .before .before .before .before .args .s in
+    let after : record { reader = c .before .at-start .result; state = c .before .before .before .before .before .before .answer .result .state } ≡ stepShelf s (now (c .before .before .before .before .before .before .before .before .before .before .before .before .before .before .before .before .before .before .args .chunk)) =
+        rw (z, sym k, c .before .at-start .ensures, a .0) refl in
+    ((after, rw (z, sym k) (ap (λ (x : Cut). x .taken) e, (a .1 .0, (a .1 .1 .0, a .1 .1 .1))))
+    , subst (λ (x : Shelf). Ready (x .state)) (sym after) (ready-step s _ (c .before .before .before .before .before .before .before .before .before .before .before .before .before .before .before .before .before .before .pre .0)))
 
 pub serve-spec : {M : Type 1} → statement M
 serve-spec =
