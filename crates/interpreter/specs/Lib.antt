@@ -3,4 +3,5 @@ pub mod Room
 pub mod Cutting
 pub mod Beacons
 pub mod Ready
+pub mod Sizes
 pub mod Whole

@@ -61,6 +61,7 @@ step-rows s chunk = ⊎-elim ended on (either (cutOf s chunk .ended))
         let x = row-ended 0 (s .reader) chunk e in
         let k : x .k ≡ cutOf s chunk .taken = (let h = x .taken in omega arith) in
         rw (e, x .lines, k) refl
+
     on : cutOf s chunk .ended ≡ false → chunkRows s chunk ≡ stepRows s chunk ++ chunkRows (stepShelf s chunk) (rest s chunk)
     on e = rw (e, taken-all s chunk e, row-open 0 (s .reader) chunk e .1 .0) refl
 
@@ -73,6 +74,7 @@ step-after s chunk = ⊎-elim ended on (either (cutOf s chunk .ended))
         let x = row-ended 0 (s .reader) chunk e in
         let k : x .k ≡ cutOf s chunk .taken = (let h = x .taken in omega arith) in
         rw (e, x .lines, x .after, k) refl
+
     on : cutOf s chunk .ended ≡ false → shelfAfter s chunk ≡ shelfAfter (stepShelf s chunk) (rest s chunk)
     on e = let x = row-open 0 (s .reader) chunk e in rw (e, taken-all s chunk e, x .1 .0, x .1 .1) refl
 
@@ -100,7 +102,7 @@ served-all s (c ∷ cs) =
     let ls = linesIn r c in
     let after = linesIn (readerAfter r c) bs ++ lastLines (readerAfter (readerAfter r c) bs) in
     let whole : linesIn r (c ++ bs) ++ lastLines (readerAfter r (c ++ bs)) ≡ ls ++ after =
-        rw (lines-append r c bs, after-append r c bs) (append-assoc ls _ _) in
+    rw (lines-append r c bs, after-append r c bs) (append-assoc ls _ _) in
     ap (λ x. chunkRows s c ++ x) (served-all (shelfAfter s c) cs)
     ∙ sym (printed-append (s .state) (map commandIn ls) (map commandIn after))
     ∙ ap (printed (s .state)) (sym (map-append commandIn ls after))
@@ -113,6 +115,7 @@ line-command row = ⊎-elim short long (either (leb (length row) rowMost))
   where
     short : leb (length row) rowMost ≡ true → commandIn (lineOf row) ≡ commandOf row
     short e = let k = kept-whole row (leb-true _ _ e) in ap (λ x. cond (leb x rowMost) (commandOf (textOf (lineOf row))) OtherForm) (k .0) ∙ rw (e, k .1, e) refl
+
     long : leb (length row) rowMost ≡ false → commandIn (lineOf row) ≡ commandOf row
     long e = rw (kept-long row (leb-false _ _ e), e) refl
 

@@ -39,6 +39,9 @@ pub struct Served {
     pub at: usize,
 }
 
+// The most bytes of the rows of one answer: a row of the call and 1,024 rows of records.
+pub const ANSWER_MOST: usize = 53248;
+
 // ---- one call and its rows
 // Refused, an opening leaves the table of the one before it.
 fn answer_open(s: State, units: u32, out: &mut [u8], at: usize) -> Answered

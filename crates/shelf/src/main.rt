@@ -1,39 +1,142 @@
 // The program `shelf`: rows of calls on standard input, rows of answers and plans on standard output. Document 01, "Reading, lending,
 // printing". What it does with each byte is in crate interpreter; here are the reads and writes.
-ghost use mathlib.Core.Path.{_≡_};
-ghost use Prim.Native.Nat.{_+_, _≤_};
+ghost use Prim.Native.Nat.{_+_, _≤_, _<_};
 ghost use lib.ListN.{length};
 ghost use Rattle.interpreter.specs.Room.{planWords, answerMost, Ready};
 use interpreter::Shelf;
 
-// How the input goes on.
-enum Input {
-    More,
-    Ended,
-    Failed,
-}
-
 struct Flow {
     shelf: Shelf,
-    input: Input,
+    going: bool,
 }
 
-// The place of the next row, and whether the output still takes rows.
-struct Room {
-    at: usize,
-    open: bool,
-}
-
-// Writes out what is printed where another answer might not fit behind it.
-fn with_room(out: &[u8], at: usize) -> Room
-    requires { ⌜ (at ≤ length (now out)) × (answerMost ≤ length (now out)) ⌝ }
-    ensures { λ r. ⌜ r .at + answerMost ≤ length (now (out .entry)) ⌝ }
+// Writes out the rows that are printed. Where that fails, says so and answers false.
+fn put(out: &[u8], at: usize) -> bool
+    requires { ⌜ at ≤ length (now out) ⌝ }
 {
-    if interpreter::ANSWER_MOST <= out.len() - at {
-        return Room { at, open: true };
+    if io::write_all(1, &out[..at]) {
+        return true;
     }
-    Room {
+    io::write_all(2, b"shelf: writing failed\n");
+    false
+}
+
+// What one step took of a chunk, and the place of the next row.
+struct Part {
+    shelf: Shelf,
+    taken: usize,
+    at: usize,
+    going: bool,
+}
+
+// One step. The rows are written out where another answer might not fit behind them.
+fn serve_part(s: Shelf, chunk: &[u8], plan: &mut [u32], out: &mut [u8], at: usize) -> Part
+    requires { ⌜ Ready (s .state) ⌝ }
+    requires { ⌜ planWords ≤ length (now plan) ⌝ }
+    requires { ⌜ at + answerMost ≤ length (now out) ⌝ }
+    ensures { λ r. let n = length (now (chunk .entry)) in
+        ⌜ Ready (r .shelf .state) × ((r .at + answerMost ≤ length (now (out .entry))) × ((r .taken ≤ n) × (0 < n → 0 < r .taken))) ⌝ }
+{
+    let served = interpreter::serve(s, chunk, plan, out, at);
+    let shelf = served.shelf;
+    let taken = served.taken;
+    let next = served.at;
+    if interpreter::ANSWER_MOST <= out.len() - next {
+        return Part {
+            shelf,
+            taken,
+            at: next,
+            going: true,
+        };
+    }
+    let going = put(out, next);
+    Part {
+        shelf,
+        taken,
         at: 0,
-        open: io::write_all(1, &out[..at]),
+        going,
+    }
+}
+
+// Serves a whole chunk. What is printed is written out at its end, so that no answer waits for the next chunk.
+fn serve_chunk(s: Shelf, chunk: &[u8], plan: &mut [u32], out: &mut [u8]) -> Flow
+    requires { ⌜ Ready (s .state) ⌝ }
+    requires { ⌜ planWords ≤ length (now plan) ⌝ }
+    requires { ⌜ answerMost ≤ length (now out) ⌝ }
+    ensures { λ r. ⌜ Ready (r .shelf .state) ⌝ }
+{
+    let mut shelf = s;
+    let mut left = chunk.len();
+    let mut at: usize = 0;
+    while left > 0 {
+        let part = serve_part(shelf, &chunk[chunk.len() - left..], plan, out, at);
+        let next = part.shelf;
+        let taken = part.taken;
+        shelf = next;
+        left -= taken;
+        at = part.at;
+        if !part.going {
+            return Flow {
+                shelf,
+                going: false,
+            };
+        }
+    }
+    let going = put(out, at);
+    Flow { shelf, going }
+}
+
+// One read. At the end of the input the last row may still want its answer.
+fn serve_some(s: Shelf, input: &mut [u8], plan: &mut [u32], out: &mut [u8]) -> Flow
+    requires { ⌜ Ready (s .state) ⌝ }
+    requires { ⌜ planWords ≤ length (now plan) ⌝ }
+    requires { ⌜ answerMost ≤ length (now out) ⌝ }
+    ensures { λ r. ⌜ Ready (r .shelf .state) ⌝ }
+{
+    let got = libc::read(0, input);
+    if got < 0 {
+        io::write_all(2, b"shelf: reading failed\n");
+        return Flow {
+            shelf: s,
+            going: false,
+        };
+    }
+    if got == 0 {
+        let at = interpreter::finish(s, plan, out, 0);
+        put(out, at);
+        return Flow {
+            shelf: s,
+            going: false,
+        };
+    }
+    let n = io::count(got, input);
+    serve_chunk(s, &input[..n], plan, out)
+}
+
+// A proved loop has to end, and nothing says that the input does. So it counts its turns down, from a number that no run uses up.
+fn serve_all(input: &mut [u8], plan: &mut [u32], out: &mut [u8])
+    requires { ⌜ planWords ≤ length (now plan) ⌝ }
+    requires { ⌜ answerMost ≤ length (now out) ⌝ }
+{
+    let mut shelf = interpreter::first_shelf();
+    let mut turns = u64::MAX;
+    while turns > 0 {
+        let flow = serve_some(shelf, input, plan, out);
+        if !flow.going {
+            return;
+        }
+        let next = flow.shelf;
+        shelf = next;
+        turns -= 1;
+    }
+}
+
+fn main() {
+    let mut input = [0u8; 65536];
+    let mut out = [0u8; 131072];
+    let mut plan = [0u32; 4096];
+    let at = printing::header_row(&mut out, 0);
+    if put(&out, at) {
+        serve_all(&mut input, &mut plan, &mut out);
     }
 }

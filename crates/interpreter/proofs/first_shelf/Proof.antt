@@ -21,7 +21,7 @@ returns : tie.Need-returns
 unfolding firstShelf firstState openAnswer refusal
 returns c =
     let e : record { reader = c .at-start .result; state = record { ready = false; table = c .before .before .«open» .result .table } } ≡ firstShelf =
-        rw (c .at-start .ensures, c .before .before .«open» .ensures .1) refl in
+    rw (c .at-start .ensures, c .before .before .«open» .ensures .1) refl in
     (e, subst (λ (x : Shelf). Ready (x .state)) (sym e) ready-first)
 
 pub first-shelf-spec : {M : Type 1} → statement M

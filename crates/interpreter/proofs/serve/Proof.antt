@@ -22,9 +22,10 @@ returns c =
     let z = ap (λ (x : Cut). x .ended) (sym e) ∙ not-true (c .before .before .before .before .cut-row .result .ended) (c .if1 .taken) in
     let s = c .before .before .before .before .before .before .before .before .args .s in
     let after : record { reader = c .before .before .before .before .cut-row .result .reader; state = s .state } ≡ stepShelf s (now (c .before .before .before .before .before .before .before .before .args .chunk)) =
-        rw z (ap (λ (x : Cut). record { reader = x .reader; state = s .state }) e) in
-    ((after, rw z (ap (λ (x : Cut). x .taken) e, (omega arith, (sym (written-none _ _), refl))))
-    , subst (λ (x : Shelf). Ready (x .state)) (sym after) (ready-step s _ (c .before .before .before .before .before .before .before .before .pre .0)))
+    rw z (ap (λ (x : Cut). record { reader = x .reader; state = s .state }) e) in (
+      (after, rw z (ap (λ (x : Cut). x .taken) e, (omega arith, (sym (written-none _ _), refl)))),
+      subst (λ (x : Shelf). Ready (x .state)) (sym after) (ready-step s _ (c .before .before .before .before .before .before .before .before .pre .0)),
+    )
 
 command-in-requires : tie.Need-command-in-requires
 command-in-requires c κs = search needs
@@ -50,9 +51,10 @@ returns-2 c =
     let a = c .before .before .before .before .before .before .answer .ensures in
     let s = c .before .before .before .before .before .before .before .before .before .before .before .before .before .before .before .before .before .before .args .s in
     let after : record { reader = c .before .at-start .result; state = c .before .before .before .before .before .before .answer .result .state } ≡ stepShelf s (now (c .before .before .before .before .before .before .before .before .before .before .before .before .before .before .before .before .before .before .args .chunk)) =
-        rw (z, sym k, c .before .at-start .ensures, a .0) refl in
-    ((after, rw (z, sym k) (ap (λ (x : Cut). x .taken) e, (a .1 .0, (a .1 .1 .0, a .1 .1 .1))))
-    , subst (λ (x : Shelf). Ready (x .state)) (sym after) (ready-step s _ (c .before .before .before .before .before .before .before .before .before .before .before .before .before .before .before .before .before .before .pre .0)))
+    rw (z, sym k, c .before .at-start .ensures, a .0) refl in (
+      (after, rw (z, sym k) (ap (λ (x : Cut). x .taken) e, (a .1 .0, (a .1 .1 .0, a .1 .1 .1)))),
+      subst (λ (x : Shelf). Ready (x .state)) (sym after) (ready-step s _ (c .before .before .before .before .before .before .before .before .before .before .before .before .before .before .before .before .before .before .pre .0)),
+    )
 
 pub serve-spec : {M : Type 1} → statement M
 serve-spec =
