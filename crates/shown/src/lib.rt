@@ -19,7 +19,7 @@ use planner::OpenAnswer;
 use planner::Opening;
 
 // ---- the answers' numbers
-fn open_number(answer: OpenAnswer) -> u32
+pub fn open_number(answer: OpenAnswer) -> u32
     ensures { λ r. ⌜ r ≡ openNumber answer ⌝ }
 {
     match answer {
@@ -28,7 +28,7 @@ fn open_number(answer: OpenAnswer) -> u32
     }
 }
 
-fn offer_number(answer: OfferAnswer) -> u32
+pub fn offer_number(answer: OfferAnswer) -> u32
     ensures { λ r. ⌜ r ≡ offerNumber answer ⌝ }
 {
     match answer {
@@ -44,7 +44,7 @@ fn offer_number(answer: OfferAnswer) -> u32
     }
 }
 
-fn held_number(answer: HeldAnswer) -> u32
+pub fn held_number(answer: HeldAnswer) -> u32
     ensures { λ r. ⌜ r ≡ heldNumber answer ⌝ }
 {
     match answer {
@@ -53,7 +53,7 @@ fn held_number(answer: HeldAnswer) -> u32
     }
 }
 
-fn beacon_number(answer: BeaconAnswer) -> u32
+pub fn beacon_number(answer: BeaconAnswer) -> u32
     ensures { λ r. ⌜ r ≡ beaconNumber answer ⌝ }
 {
     match answer {

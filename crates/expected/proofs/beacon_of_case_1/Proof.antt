@@ -1,0 +1,26 @@
+-- The plan of what case 1 offers, as the theorem of the cases says. Assumes nothing.
+use mathlib.Core.Path.{ap}
+use lib.ListN.{drop}
+use borrow.Author.Needs.{needs}
+use Rattle.expected.specs.Said.{said-1-to-3, plan-told}
+use Rattle.expected.proofs.beacon_of_case_1.Statement.{statement}
+use Rattle.expected.proofs.beacon_of_case_1.Tie as tie
+
+slice-aggregate-beacon : tie.Need-slice-aggregate-beacon
+slice-aggregate-beacon c = search needs
+
+beacon-requires : tie.Need-beacon-requires
+beacon-requires c κs = (search needs, (search needs, cc (plan-told (said-1-to-3 .rest .rest .rest .rest) .0)))
+
+same-length : tie.Need-same-length
+same-length c = search needs
+
+returns : tie.Need-returns
+returns c =
+    let b = c .before .before in
+    let e = b .beacon .ensures in
+    (cc, (e .1 .0, ap (drop 20) (e .1 .1)))
+
+pub beacon-of-case-1-spec : {M : Type 1} → statement M
+beacon-of-case-1-spec =
+    tie.close (tie.spec slice-aggregate-beacon beacon-requires same-length returns)
