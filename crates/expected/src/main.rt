@@ -1,6 +1,6 @@
-// Cases 1 to 8 and 10 of document 01, "Tested by hand", on the proved calls. Every answer, record count and word of a plan that the document
-// names is held to it by `check::expect`, which asks for a proof that its test passes. Case 9 reads a plan through the window, which is no
-// call here.
+// Cases 1 to 8 and 10 of document 01, "Tested by hand", on the proved calls. Every answer, every record count and every word of a plan that
+// the document names is held to it by `check::expect`, which asks for a proof that its test passes. Case 9 reads a plan through the window,
+// which is no call here.
 ghost use Prim.Native.Nat.{_≤_};
 ghost use mathlib.Core.List.{_++_};
 ghost use mathlib.Core.Path.{_≡_};

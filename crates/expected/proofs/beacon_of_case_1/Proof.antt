@@ -2,7 +2,7 @@
 use mathlib.Core.Path.{ap}
 use lib.ListN.{drop}
 use borrow.Author.Needs.{needs}
-use Rattle.expected.specs.Said.{said-1-to-3, plan-told}
+use Rattle.expected.specs.Said.{plan-told, line}
 use Rattle.expected.proofs.beacon_of_case_1.Statement.{statement}
 use Rattle.expected.proofs.beacon_of_case_1.Tie as tie
 
@@ -10,7 +10,9 @@ slice-aggregate-beacon : tie.Need-slice-aggregate-beacon
 slice-aggregate-beacon c = search needs
 
 beacon-requires : tie.Need-beacon-requires
-beacon-requires c κs = (search needs, (search needs, cc (plan-told (said-1-to-3 .rest .rest .rest .rest) .0)))
+beacon-requires c κs =
+    let s = c .before .before .before in
+    (s .pre .1 .0, (search needs, rw (s .pre .0) (plan-told (line 4) .0)))
 
 same-length : tie.Need-same-length
 same-length c = search needs
@@ -19,7 +21,8 @@ returns : tie.Need-returns
 returns c =
     let b = c .before .before in
     let e = b .beacon .ensures in
-    (cc, (e .1 .0, ap (drop 20) (e .1 .1)))
+    let s = b .before .before .before .before in
+    (rw (e .0, s .pre .0), (e .1 .0, ap (drop 20) (e .1 .1)))
 
 pub beacon-of-case-1-spec : {M : Type 1} → statement M
 beacon-of-case-1-spec =

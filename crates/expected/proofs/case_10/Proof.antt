@@ -24,7 +24,8 @@ expect-each-requires c κs =
 beacon-of-case-1-requires : tie.Need-beacon-of-case-1-requires
 beacon-of-case-1-requires c κs =
     let r = c .before .before .before .before .before in
-    (cc, (search needs, omega (arith, ap length (r .refused-beacon .ensures .1 .1))))
+    let e = r .refused-beacon .ensures in
+    (e .0 ∙ r .before .before .offers-of-case-1 .ensures .0, (e .1 .0, omega (arith, ap length (e .1 .1))))
 
 sub-expect-each : tie.Need-sub-expect-each
 sub-expect-each c = search needs

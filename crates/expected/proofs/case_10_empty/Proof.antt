@@ -1,17 +1,19 @@
 -- A table that holds nothing has an empty plan. Assumes nothing.
 use borrow.Author.Needs.{needs}
-use Rattle.expected.specs.Said.{said-1-to-3, nothing-planned}
+use Rattle.expected.specs.Said.{nothing-planned, line}
 use Rattle.expected.proofs.case_10_empty.Statement.{statement}
 use Rattle.expected.proofs.case_10_empty.Tie as tie
 
 open-requires : tie.Need-open-requires
-open-requires c κs = said-1-to-3 .answer
+open-requires c κs = line 0 .answer
 
 slice-aggregate-beacon : tie.Need-slice-aggregate-beacon
 slice-aggregate-beacon c = search needs
 
 beacon-requires : tie.Need-beacon-requires
-beacon-requires c κs = (search needs, (search needs, cc nothing-planned))
+beacon-requires c κs =
+    let e = c .before .before .«open» .ensures in
+    (e .1, (search needs, rw (e .0) nothing-planned))
 
 same-length : tie.Need-same-length
 same-length c = search needs

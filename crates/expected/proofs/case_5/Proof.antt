@@ -1,36 +1,40 @@
 -- Each answer is that of a line of case 5. Assumes nothing.
+use Prim.Native.Nat.{_+_}
 use borrow.Author.Needs.{needs}
-use Rattle.expected.specs.Said.{said-5, plan-told}
+use Rattle.expected.specs.Said.{at5, plan-told, line}
 use Rattle.expected.proofs.case_5.Statement.{statement}
 use Rattle.expected.proofs.case_5.Tie as tie
 
 open-requires : tie.Need-open-requires
-open-requires c κs = said-5 .answer
+open-requires c κs = line at5 .answer
 
 offer-requires : tie.Need-offer-requires
-offer-requires c κs = (search needs, cc (said-5 .rest .answer))
+offer-requires c κs = (c .«open» .ensures .1, rw (c .«open» .ensures .0) (line (at5 + 1) .answer))
 
 offer-requires-2 : tie.Need-offer-requires-2
-offer-requires-2 c κs = (search needs, cc (said-5 .rest .rest .answer))
+offer-requires-2 c κs = (c .offer .ensures .1, rw (c .offer .ensures .0, c .before .«open» .ensures .0) (line (at5 + 2) .answer))
 
 slice-aggregate-beacon : tie.Need-slice-aggregate-beacon
 slice-aggregate-beacon c = search needs
 
 beacon-requires : tie.Need-beacon-requires
-beacon-requires c κs = (search needs, (search needs, cc (plan-told (said-5 .rest .rest .rest) .0)))
+beacon-requires c κs =
+    let o = c .before .before in
+    (o .offer2 .ensures .1, (search needs, rw (o .offer2 .ensures .0, o .before .offer .ensures .0, o .before .before .«open» .ensures .0) (plan-told (line (at5 + 3)) .0)))
 
 withdraw-requires : tie.Need-withdraw-requires
-withdraw-requires c κs = (search needs, cc (rw (plan-told (said-5 .rest .rest .rest) .1) at (said-5 .rest .rest .rest .rest .answer)))
+withdraw-requires c κs =
+    let b = c .before .before in
+    let o = b .before .before .before in
+    let f = rw (plan-told (line (at5 + 3)) .1) at (line (at5 + 4) .answer) in
+    (b .beacon .ensures .1 .0, rw (b .beacon .ensures .0, o .offer2 .ensures .0, o .before .offer .ensures .0, o .before .before .«open» .ensures .0) f)
 
 offer-requires-3 : tie.Need-offer-requires-3
 offer-requires-3 c κs =
     let b = c .before .before .before in
     let o = b .before .before .before in
-    let u = o .before .before in (
-      search needs,
-      rw (c .withdraw .ensures .0, b .beacon .ensures .0, o .offer2 .ensures .0, o .before .offer .ensures .0, u .«open» .ensures .0)
-          (rw (plan-told (said-5 .rest .rest .rest) .1) at (said-5 .rest .rest .rest .rest .rest .answer)),
-    )
+    let f = rw (plan-told (line (at5 + 3)) .1) at (line (at5 + 5) .answer) in
+    (c .withdraw .ensures .1, rw (c .withdraw .ensures .0, b .beacon .ensures .0, o .offer2 .ensures .0, o .before .offer .ensures .0, o .before .before .«open» .ensures .0) f)
 
 same-length : tie.Need-same-length
 same-length c = search needs

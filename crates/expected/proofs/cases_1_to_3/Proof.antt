@@ -1,6 +1,6 @@
 -- Each plan is that of a line of cases 1 to 3, of the table that the beacon before it gave. Assumes nothing.
 use borrow.Author.Needs.{needs}
-use Rattle.expected.specs.Said.{said-1-to-3, plan-told}
+use Rattle.expected.specs.Said.{plan-told, line}
 use Rattle.expected.proofs.cases_1_to_3.Statement.{statement}
 use Rattle.expected.proofs.cases_1_to_3.Tie as tie
 
@@ -15,21 +15,20 @@ slice-aggregate-beacon c = search needs
 
 beacon-requires : tie.Need-beacon-requires
 beacon-requires c κs =
-    let first = plan-told (said-1-to-3 .rest .rest .rest .rest) in
-    let second = plan-told (said-1-to-3 .rest .rest .rest .rest .rest .rest) in
-    (search needs, (search needs, cc (rw (first .1) at (second .0))))
+    let e = c .before .before .before .before .beacon-of-case-1 .ensures in
+    let f = rw (plan-told (line 4) .1) at (plan-told (line 6) .0) in
+    (e .1 .0, (search needs, rw (e .0) f))
 
 slice-aggregate-beacon-2 : tie.Need-slice-aggregate-beacon-2
 slice-aggregate-beacon-2 c = search needs
 
 beacon-requires-2 : tie.Need-beacon-requires-2
 beacon-requires-2 c κs =
-    let first = plan-told (said-1-to-3 .rest .rest .rest .rest) in
-    let second = plan-told (said-1-to-3 .rest .rest .rest .rest .rest .rest) in
-    let third = plan-told (said-1-to-3 .rest .rest .rest .rest .rest .rest .rest .rest) in
     let b = c .before .before .before .before in
+    let e = b .beacon .ensures in
     let a = b .before .before .before .before .before in
-    (search needs, (search needs, rw (b .beacon .ensures .0, a .beacon-of-case-1 .ensures .0) (rw (second .1, first .1) at (third .0))))
+    let f = rw (plan-told (line 6) .1, plan-told (line 4) .1) at (plan-told (line 8) .0) in
+    (e .1 .0, (search needs, rw (e .0, a .beacon-of-case-1 .ensures .0) f))
 
 same-length : tie.Need-same-length
 same-length c = search needs
