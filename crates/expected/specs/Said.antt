@@ -1,6 +1,6 @@
 -- What the theorem of the worked cases, `cases-right`, says of each of its lines, so that a program can cite the line that it runs. Nothing
 -- is computed again but the plan of a table that holds nothing, which is in no list. Assumes nothing.
-use Prim.Native.Nat.{ℕ, zero, suc, _+_, _*_, _/_, _<_, _≤_}
+use Prim.Native.Nat.{ℕ, zero, suc, _+_, _*_, _<_, _≤_}
 use mathlib.Core.Path.{_≡_, refl, sym, ap, _∙_}
 use mathlib.Core.Bool.{Bool, true, false, cond, _&&_}
 use mathlib.Core.List.{List, [], _∷_, _++_}
@@ -18,6 +18,7 @@ use Rattle.rules.specs.Calls.{opened, wordsOf, planOf, advanced, refusedBeacon,
 use Rattle.rules.specs.Cases.{State, Line, Tick, reply, plays, start, cases, cases-right}
 use Rattle.rules.specs.Cases.{offers1, case1, cases23, case4, case5, case6, case7}
 use Rattle.plan.specs.Pens.{length-words}
+use Rattle.expected.specs.Words.{rows, row-count}
 
 -- ---- one line
 pub record Told (s : State) (l : Line) : Type 0 where
@@ -86,14 +87,11 @@ short-beacon t n ws h =
     let l = length-take n ws in
     rw (lt-ltb (length (take n ws)) 4096 (omega arith))
 
--- where rs are the words of the plan
-pub long-beacon : (t : Table) (ws : List ℕ) {rs : List ℕ} → 4096 ≤ length ws → wordsOf (planOf t) ≡ rs
-    → beacon t ws ≡ record { answer = 0; count = length rs / 4; words = rs ++ drop (length rs) ws; table = advanced t }
+-- where rs are the plan's records
+pub long-beacon : (t : Table) (ws : List ℕ) {rs : List (List ℕ)} → 4096 ≤ length ws → rows (wordsOf (planOf t)) ≡ rs
+    → beacon t ws ≡ record { answer = 0; count = length rs; words = wordsOf (planOf t) ++ drop (4 * length rs) ws; table = advanced t }
 unfolding beacon
-long-beacon t ws {rs} h e =
-    let n : length rs ≡ 4 * length (planOf t) = ap length (sym e) ∙ length-words (planOf t) in
-    let d : length rs / 4 ≡ length (planOf t) = omega arith in
-    rw (le-ltb (length ws) 4096 h, d, n, e)
+long-beacon t ws h e = rw (le-ltb (length ws) 4096 h, row-count (planOf t) e)
 
 -- one that answers 0 has written the plan, and the table is one interval on
 planned : (t : Table) (ws : List ℕ) {l : List ℕ} → beacon t ws .answer ≡ 0
@@ -107,10 +105,10 @@ planned t ws {l} = go (ltb (length ws) 4096)
     go false z e = (sym (take-at (wordsOf (planOf t)) _ _ (length-words (planOf t))) ∙ e, refl)
 
 pub plan-told : {s : State} {l : List ℕ} → Told s (record { ask = Tick; answer = 0; shown = l })
-    → (wordsOf (planOf (s .table)) ≡ l) × (beacon (s .table) (s .words) .table ≡ advanced (s .table))
-plan-told {s} p = planned (s .table) (s .words) (p .answer) (p .shown)
+    → (rows (wordsOf (planOf (s .table))) ≡ rows l) × (beacon (s .table) (s .words) .table ≡ advanced (s .table))
+plan-told {s} p = let b = planned (s .table) (s .words) (p .answer) (p .shown) in (ap rows (b .0), b .1)
 
 -- a table that holds nothing has an empty plan
-pub nothing-planned : wordsOf (planOf (opened 1)) ≡ []
+pub nothing-planned : rows (wordsOf (planOf (opened 1))) ≡ []
 unfolding order tieOrder jobs choose slotsFrom stepD prepend runsFrom stepE opened wordsOf planOf
 nothing-planned = refl

@@ -1,26 +1,35 @@
 // Cases 1 to 8 and 10 of document 01, "Tested by hand", on the proved calls. Every answer, every record count and every word of a plan that
 // the document names is held to it by `check::expect`, which asks for a proof that its test passes. Case 9 reads a plan through the window,
 // which is no call here.
-ghost use Prim.Native.Nat.{_≤_};
-ghost use mathlib.Core.List.{_++_};
+ghost use Prim.Native.Nat.{_*_, _≤_};
 ghost use mathlib.Core.Path.{_≡_};
-ghost use lib.ListN.{length, take, drop};
+ghost use lib.ListN.{length, drop};
 ghost use Rattle.rules.specs.Calls.{openAnswer, opened, offerAnswer, offered, heldAnswer, withdrawn, wordsOf, planOf, advanced};
 ghost use Rattle.rules.specs.WellFormed.{WellFormed};
 ghost use Rattle.planner.specs.Numbers.{beaconNumber, request};
 ghost use Rattle.expected.specs.Said.{table1};
-ghost use Rattle.expected.specs.Words.{Each};
+ghost use Rattle.expected.specs.Words.{rows, Begins, Records, Each};
 use model::Table;
 use planner::Beaconing;
 
 // ---- words
-// The plan begins with these words.
-fn expect_words(plan: &[u32], words: &[u32])
-    requires { ⌜ take (length (now words)) (now plan) ≡ now words ⌝ }
+// These words begin with those.
+fn expect_words(words: &[u32], first: &[u32])
+    requires { ⌜ Begins (now words) (now first) ⌝ }
 {
     let mut i = 0;
-    while i < words.len() {
-        check::expect(plan[i] == words[i]);
+    while i < first.len() {
+        check::expect(words[i] == first[i]);
+        i += 1;
+    }
+}
+
+fn expect_records(plan: &[u32], records: &[[u32; 4]])
+    requires { ⌜ Records (now plan) (now records) ⌝ }
+{
+    let mut i = 0;
+    while i < records.len() {
+        expect_words(&plan[4 * i..], &records[i]);
         i += 1;
     }
 }
@@ -89,18 +98,18 @@ fn expect_beacon(b: Beaconing, expected: u32, count: usize)
     check::expect(b.count == count);
 }
 
-// The plan is these records, four words each.
-fn beacon(t: Table, plan: &mut [u32], records: &[u32]) -> Table
+// The plan is these records, each with its stream, job, start and length.
+fn beacon(t: Table, plan: &mut [u32], records: &[[u32; 4]]) -> Table
     requires { ⌜ WellFormed t ⌝ }
     requires { ⌜ 4096 ≤ length (now plan) ⌝ }
-    requires { ⌜ wordsOf (planOf t) ≡ now records ⌝ }
+    requires { ⌜ rows (wordsOf (planOf t)) ≡ now records ⌝ }
     ensures is { λ r. ⌜ r ≡ advanced t ⌝ }
     ensures formed { λ r. ⌜ WellFormed r ⌝ }
-    ensures words { λ r. ⌜ now (plan .exit) ≡ now (records .entry) ++ drop (length (now (records .entry))) (now (plan .entry)) ⌝ }
+    ensures later { λ r. let n = 4 * length (now (records .entry)) in ⌜ drop n (now (plan .exit)) ≡ drop n (now (plan .entry)) ⌝ }
 {
     let b = planner::beacon(t, plan);
-    expect_beacon(b, 0, records.len() / 4);
-    expect_words(plan, records);
+    expect_beacon(b, 0, records.len());
+    expect_records(plan, records);
     b.table
 }
 
@@ -138,26 +147,11 @@ fn beacon_of_case_1(t: Table, plan: &mut [u32]) -> Table
     ensures later { λ r. ⌜ drop 20 (now (plan .exit)) ≡ drop 20 (now (plan .entry)) ⌝ }
 {
     let records = [
-        5u32,
-        0,
-        0,
-        100,
-        9,
-        0,
-        100,
-        300,
-        7,
-        0,
-        400,
-        112,
-        5,
-        1,
-        512,
-        100,
-        7,
-        0,
-        612,
-        412,
+        [5u32, 0, 0, 100],
+        [9, 0, 100, 300],
+        [7, 0, 400, 112],
+        [5, 1, 512, 100],
+        [7, 0, 612, 412],
     ];
     beacon(t, plan, &records)
 }
@@ -168,41 +162,17 @@ fn cases_1_to_3(plan: &mut [u32])
     let t = offers_of_case_1();
     let t = beacon_of_case_1(t, plan);
     let second = [
-        5u32,
-        0,
-        0,
-        287,
-        7,
-        0,
-        287,
-        225,
-        5,
-        1,
-        512,
-        287,
-        7,
-        0,
-        799,
-        225,
+        [5u32, 0, 0, 287],
+        [7, 0, 287, 225],
+        [5, 1, 512, 287],
+        [7, 0, 799, 225],
     ];
     let t = beacon(t, plan, &second);
     let third = [
-        5u32,
-        0,
-        0,
-        156,
-        7,
-        0,
-        156,
-        356,
-        5,
-        1,
-        512,
-        156,
-        7,
-        0,
-        668,
-        356,
+        [5u32, 0, 0, 156],
+        [7, 0, 156, 356],
+        [5, 1, 512, 156],
+        [7, 0, 668, 356],
     ];
     beacon(t, plan, &third);
 }
@@ -221,7 +191,7 @@ fn case_5(plan: &mut [u32])
     let t = open(1);
     let t = offer(t, 1, 2, 2, 1024, 1024, 2, 0);
     let t = offer(t, 2, 2, 2, 1024, 1024, 2, 0);
-    let records = [1u32, 0, 0, 1024];
+    let records = [[1u32, 0, 0, 1024]];
     let t = beacon(t, plan, &records);
     let t = withdraw(t, 1);
     offer(t, 3, 2, 1, 1, 1, 1, 17);
@@ -246,7 +216,8 @@ fn case_8() {
     offer(t, 1, 2, 2, 1, 1, 4, 0);
 }
 
-// Refused at 4,095 words, the table and every word are as before: at 4,096 the same table gives the plan of case 1.
+// Refused at 4,095 words, the table and every word are as before: at 4,096 the same table gives the plan of case 1, and the words after it
+// stay. The memory is all 77,777, a number that the plan does not have.
 fn case_10(plan: &mut [u32])
     requires { ⌜ length (now plan) ≡ 4096 ⌝ }
     requires { ⌜ Each 77777 (now plan) ⌝ }

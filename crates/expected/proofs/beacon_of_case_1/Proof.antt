@@ -1,6 +1,4 @@
 -- The plan of what case 1 offers, as the theorem of the cases says. Assumes nothing.
-use mathlib.Core.Path.{ap}
-use lib.ListN.{drop}
 use borrow.Author.Needs.{needs}
 use Rattle.expected.specs.Said.{plan-told, line}
 use Rattle.expected.proofs.beacon_of_case_1.Statement.{statement}
@@ -22,7 +20,7 @@ returns c =
     let b = c .before .before in
     let e = b .beacon .ensures in
     let s = b .before .before .before .before in
-    (rw (e .0, s .pre .0), (e .1 .0, ap (drop 20) (e .1 .1)))
+    (rw (e .0, s .pre .0), (e .1 .0, e .1 .1))
 
 pub beacon-of-case-1-spec : {M : Type 1} → statement M
 beacon-of-case-1-spec =

@@ -20,21 +20,27 @@ slice-aggregate-beacon c = search needs
 beacon-requires : tie.Need-beacon-requires
 beacon-requires c κs =
     let o = c .before .before in
-    (o .offer2 .ensures .1, (search needs, rw (o .offer2 .ensures .0, o .before .offer .ensures .0, o .before .before .«open» .ensures .0) (plan-told (line (at5 + 3)) .0)))
+    let p = o .before in
+    let f = plan-told (line (at5 + 3)) .0 in
+    (o .offer2 .ensures .1, (search needs, rw (o .offer2 .ensures .0, p .offer .ensures .0, p .before .«open» .ensures .0) f))
 
 withdraw-requires : tie.Need-withdraw-requires
 withdraw-requires c κs =
     let b = c .before .before in
     let o = b .before .before .before in
+    let p = o .before in
+    let e = b .beacon .ensures in
     let f = rw (plan-told (line (at5 + 3)) .1) at (line (at5 + 4) .answer) in
-    (b .beacon .ensures .1 .0, rw (b .beacon .ensures .0, o .offer2 .ensures .0, o .before .offer .ensures .0, o .before .before .«open» .ensures .0) f)
+    (e .1 .0, rw (e .0, o .offer2 .ensures .0, p .offer .ensures .0, p .before .«open» .ensures .0) f)
 
 offer-requires-3 : tie.Need-offer-requires-3
 offer-requires-3 c κs =
     let b = c .before .before .before in
     let o = b .before .before .before in
+    let p = o .before in
+    let w = c .withdraw .ensures in
     let f = rw (plan-told (line (at5 + 3)) .1) at (line (at5 + 5) .answer) in
-    (c .withdraw .ensures .1, rw (c .withdraw .ensures .0, b .beacon .ensures .0, o .offer2 .ensures .0, o .before .offer .ensures .0, o .before .before .«open» .ensures .0) f)
+    (w .1, rw (w .0, b .beacon .ensures .0, o .offer2 .ensures .0, p .offer .ensures .0, p .before .«open» .ensures .0) f)
 
 same-length : tie.Need-same-length
 same-length c = search needs

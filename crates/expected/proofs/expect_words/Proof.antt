@@ -1,4 +1,4 @@
--- The plan has the words at their places. Assumes nothing.
+-- What the first words are, word by word. Assumes nothing.
 use Prim.Native.Nat.{_≤_, _-_}
 use mathlib.Core.Path.{ap, sym, _∙_}
 use native.Mathlib.Omega.{arith}
@@ -9,10 +9,10 @@ use Rattle.expected.proofs.expect_words.Statement.{statement}
 use Rattle.expected.proofs.expect_words.Tie as tie
 
 abbrev Inv-loop : tie.InvT-loop
-Inv-loop plan words i₀ i = i ≤ length words
+Inv-loop words first i₀ i = i ≤ length first
 
 abbrev μ-loop : tie.MeasureT-loop
-μ-loop plan words i₀ i = length words - i
+μ-loop words first i₀ i = length first - i
 
 loop-holds : tie.Need-loop-holds Inv-loop μ-loop
 loop-holds c = omega arith
@@ -35,7 +35,7 @@ expect-requires : tie.Need-expect-requires Inv-loop μ-loop
 expect-requires c κs =
     let s = c .before .before .before .before .before .before in
     let i = c .before .before .before .loop .i in
-    eq-eqb _ _ (sym (getD-take (length (s .args .words .now)) (s .args .plan .now) i 0 (omega arith)) ∙ ap (λ l. getD l i 0) (s .pre))
+    eq-eqb _ _ (sym (getD-take (length (s .args .first .now)) (s .args .words .now) i 0 (omega arith)) ∙ ap (λ l. getD l i 0) (s .pre))
 
 add-i : tie.Need-add-i Inv-loop μ-loop
 add-i c = omega arith
