@@ -1,7 +1,9 @@
--- What the theorem of the worked cases, `cases-right`, says of each of its lines, so that a program can cite the line that it runs. Nothing
--- is computed again but the plan of a table that holds nothing, which is in no list. Assumes nothing.
+-- What the theorem of the worked cases, `cases-right`, says of each of its lines, so that a program can cite the line that it runs; then
+-- openings and beacons as those lines have them. Nothing is computed again but the plan of a table that holds nothing, which is in no list.
+-- Assumes nothing.
 use Prim.Native.Nat.{ℕ, zero, suc, _+_, _*_, _<_, _≤_}
 use mathlib.Core.Path.{_≡_, refl, sym, ap, _∙_}
+use mathlib.Core.Logic.{_⊎_, inl, inr}
 use mathlib.Core.Bool.{Bool, true, false, cond, _&&_}
 use mathlib.Core.List.{List, [], _∷_, _++_}
 use native.Mathlib.Omega.{arith}
@@ -9,14 +11,17 @@ use lib.Dec.{eqb, ltb}
 use lib.ListN.{length, take, drop, length-take}
 use lib.Seq.{take-at}
 use borrow.Author.Tests.{lt-ltb, le-ltb, eqb-true}
-use Rattle.lists.specs.Lists.{sameList}
-use Rattle.lists.specs.Tests.{clash, and-both}
+use Rattle.lists.specs.Lists.{within, sameList}
+use Rattle.lists.specs.Tests.{either, clash, and-both}
+use Rattle.model.specs.Requests.{refusal}
 use Rattle.model.specs.declared.Table.{Table}
 use Rattle.rules.specs.Share.{order}
 use Rattle.rules.specs.Slots.{tieOrder, jobs, choose, slotsFrom, stepD, prepend, runsFrom, stepE}
-use Rattle.rules.specs.Calls.{opened, wordsOf, planOf, advanced, refusedBeacon, plannedBeacon, beacon}
+use Rattle.rules.specs.Calls.{openAnswer, opened, wordsOf, planOf, advanced, refusedBeacon, plannedBeacon, beacon}
 use Rattle.rules.specs.Cases.{State, Line, Tick, reply, plays, start, cases, cases-right}
 use Rattle.rules.specs.Cases.{offers1, case1, cases23, case4, case5, case6, case7}
+use Rattle.rules.specs.WellFormed.{WellFormed}
+use Rattle.ahead.specs.Formed.{opened-formed}
 use Rattle.plan.specs.Pens.{length-words}
 use Rattle.expected.specs.Words.{rows, row-count}
 
@@ -30,7 +35,7 @@ First s [] = Unit
 First s (l ∷ ls) = Told s l
 
 -- the state after these lines
-abbrev pub after : State → List Line → State
+abbrev after : State → List Line → State
 after s [] = s
 after s (l ∷ ls) = after (reply s (l .ask) .next) ls
 
@@ -78,6 +83,15 @@ at8 = at7 + length case7
 -- the table of what case 1 offers
 abbrev pub table1 : Table
 table1 = after start offers1 .table
+
+-- ---- an opening that answers 0
+pub open-formed : (u : ℕ) → openAnswer u ≡ 0 → WellFormed (opened u)
+unfolding openAnswer refusal
+open-formed u h = go (either (within 1 1000 u))
+  where
+    go : (within 1 1000 u ≡ true) ⊎ (within 1 1000 u ≡ false) → WellFormed (opened u)
+    go (inl y) = opened-formed u y
+    go (inr n) = let z : _≡_ {A = ℕ} 1 0 = rw n at h in absurd (omega arith)
 
 -- ---- a beacon
 -- where fewer words are lent
