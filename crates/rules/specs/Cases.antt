@@ -57,7 +57,7 @@ afterTick b =
       next = record { table = b .table; words = b .words; count = b .count };
     }
 
-abbrev reply : State → Ask → Reply
+abbrev pub reply : State → Ask → Reply
 reply s (Open u) = record { answer = openAnswer u; shown = []; next = on s (opened u) }
 reply s (Offer i k p a b l) =
     let q = request i k p a b l in
@@ -83,25 +83,25 @@ answers a n = record { ask = a; answer = n; shown = [] }
 abbrev shows : Ask → List ℕ → Line
 shows a l = record { ask = a; answer = 0; shown = l }
 
-abbrev plays : State → List Line → Bool
+abbrev pub plays : State → List Line → Bool
 plays s [] = true
 plays s (l ∷ ls) =
     let r = reply s (l .ask) in
     (eqb (r .answer) (l .answer) && sameList (r .shown) (l .shown)) && plays (r .next) ls
 
 -- ---- the cases; each begins with an opening
-abbrev offers1 : List Line
+abbrev pub offers1 : List Line
 offers1 =
     answers (Open 1) 0 ∷ answers (Offer 5 1 2 100 300 4) 0 ∷ answers (Offer 7 2 2 600 1000 4) 0 ∷ answers (Offer 9 3 1 300 0 1) 0 ∷ []
 
-abbrev case1 : List Line
+abbrev pub case1 : List Line
 case1 =
     offers1
     ++ (shows Tick (5 ∷ 0 ∷ 0 ∷ 100 ∷ 9 ∷ 0 ∷ 100 ∷ 300 ∷ 7 ∷ 0 ∷ 400 ∷ 112 ∷ 5 ∷ 1 ∷ 512 ∷ 100 ∷ 7 ∷ 0 ∷ 612 ∷ 412 ∷ [])
     ∷ [])
 
 -- 2 and 3 go on from 1
-abbrev cases23 : List Line
+abbrev pub cases23 : List Line
 cases23 =
     shows Figures (748 ∷ 800 ∷ 5 ∷ 187 ∷ 7 ∷ 374 ∷ [])
     ∷ shows Tick (5 ∷ 0 ∷ 0 ∷ 287 ∷ 7 ∷ 0 ∷ 287 ∷ 225 ∷ 5 ∷ 1 ∷ 512 ∷ 287 ∷ 7 ∷ 0 ∷ 799 ∷ 225 ∷ [])
@@ -109,14 +109,14 @@ cases23 =
     ∷ shows Tick (5 ∷ 0 ∷ 0 ∷ 156 ∷ 7 ∷ 0 ∷ 156 ∷ 356 ∷ 5 ∷ 1 ∷ 512 ∷ 156 ∷ 7 ∷ 0 ∷ 668 ∷ 356 ∷ [])
     ∷ []
 
-abbrev case4 : List Line
+abbrev pub case4 : List Line
 case4 =
     offers1
     ++ (answers (Offer 11 3 2 748 0 2) 0 ∷ [])
     ++ offers1
     ++ (answers (Offer 11 3 2 749 0 2) 17 ∷ [])
 
-abbrev case5 : List Line
+abbrev pub case5 : List Line
 case5 =
     answers (Open 1) 0
     ∷ answers (Offer 1 2 2 1024 1024 2) 0
@@ -126,17 +126,17 @@ case5 =
     ∷ answers (Offer 3 2 1 1 1 1) 17
     ∷ []
 
-abbrev case6 : List Line
+abbrev pub case6 : List Line
 case6 = answers (Open 1) 0 ∷ answers (Offer 1 1 2 512 512 1) 0 ∷ answers (Offer 2 1 2 1 1 1) 17 ∷ []
 
-abbrev case7 : List Line
+abbrev pub case7 : List Line
 case7 =
     answers (Open 1) 0 ∷ answers (Offer 1 1 3 1 1 1) 13 ∷ answers (Open 3) 0 ∷ answers (Offer 1 1 3 1 1 1) 0 ∷ []
 
-abbrev case8 : List Line
+abbrev pub case8 : List Line
 case8 = answers (Open 1) 0 ∷ answers (Offer 1 2 2 1 1 3) 15 ∷ answers (Offer 1 2 2 1 1 4) 0 ∷ []
 
-abbrev case9 : List Line
+abbrev pub case9 : List Line
 case9 =
     case1
     ++ (shows (Window 100 512) (9 ∷ 0 ∷ 100 ∷ 300 ∷ 7 ∷ 0 ∷ 400 ∷ 112 ∷ [])
@@ -144,10 +144,10 @@ case9 =
     ∷ answers (Window 513 512) 41
     ∷ [])
 
-abbrev cases : List Line
+abbrev pub cases : List Line
 cases = case1 ++ cases23 ++ case4 ++ case5 ++ case6 ++ case7 ++ case8 ++ case9
 
-abbrev start : State
+abbrev pub start : State
 start = record { table = opened 1; words = replicate 4096 0; count = 0 }
 
 pub cases-right : plays start cases ≡ true

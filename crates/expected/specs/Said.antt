@@ -1,0 +1,128 @@
+-- What the theorem of the worked cases, `cases-right`, says of each of its lines, so that a program can cite the line that it runs; then
+-- openings and beacons as those lines have them. Nothing is computed again but the plan of a table that holds nothing, which is in no list.
+-- Assumes nothing.
+use Prim.Native.Nat.{ℕ, zero, suc, _+_, _*_, _<_, _≤_}
+use mathlib.Core.Path.{_≡_, refl, sym, ap, _∙_}
+use mathlib.Core.Logic.{_⊎_, inl, inr}
+use mathlib.Core.Bool.{Bool, true, false, cond, _&&_}
+use mathlib.Core.List.{List, [], _∷_, _++_}
+use native.Mathlib.Omega.{arith}
+use lib.Dec.{eqb, ltb}
+use lib.ListN.{length, take, drop, length-take}
+use lib.Seq.{take-at}
+use borrow.Author.Tests.{lt-ltb, le-ltb, eqb-true}
+use Rattle.lists.specs.Lists.{within, sameList}
+use Rattle.lists.specs.Tests.{either, clash, and-both}
+use Rattle.model.specs.Requests.{refusal}
+use Rattle.model.specs.declared.Table.{Table}
+use Rattle.rules.specs.Share.{order}
+use Rattle.rules.specs.Slots.{tieOrder, jobs, choose, slotsFrom, stepD, prepend, runsFrom, stepE}
+use Rattle.rules.specs.Calls.{openAnswer, opened, wordsOf, planOf, advanced, refusedBeacon, plannedBeacon, beacon}
+use Rattle.rules.specs.Cases.{State, Line, Tick, reply, plays, start, cases, cases-right}
+use Rattle.rules.specs.Cases.{offers1, case1, cases23, case4, case5, case6, case7}
+use Rattle.rules.specs.WellFormed.{WellFormed}
+use Rattle.ahead.specs.Formed.{opened-formed}
+use Rattle.plan.specs.Pens.{length-words}
+use Rattle.expected.specs.Words.{rows, row-count}
+
+-- ---- one line
+pub record Told (s : State) (l : Line) : Type 0 where
+  pub answer : reply s (l .ask) .answer ≡ l .answer
+  pub shown : reply s (l .ask) .shown ≡ l .shown
+
+abbrev First : State → List Line → Type 0
+First s [] = Unit
+First s (l ∷ ls) = Told s l
+
+-- the state after these lines
+abbrev after : State → List Line → State
+after s [] = s
+after s (l ∷ ls) = after (reply s (l .ask) .next) ls
+
+same : (xs ys : List ℕ) → sameList xs ys ≡ true → xs ≡ ys
+same [] [] h = refl
+same [] (y ∷ ys) h = absurd (clash false h refl)
+same (x ∷ xs) [] h = absurd (clash false h refl)
+same (x ∷ xs) (y ∷ ys) h =
+    let p = and-both (eqb x y) (sameList xs ys) h in
+    ap (_∷ xs) (eqb-true x y (p .0)) ∙ ap (y ∷_) (same xs ys (p .1))
+
+-- the line that n others stand before
+told : (n : ℕ) (s : State) (ls : List Line) → plays s ls ≡ true → First (after s (take n ls)) (drop n ls)
+told zero s [] h = tt
+told (suc n) s [] h = tt
+told zero s (l ∷ ls) h =
+    let r = reply s (l .ask) in
+    let p = and-both (eqb (r .answer) (l .answer) && sameList (r .shown) (l .shown)) (plays (r .next) ls) h in
+    let q = and-both (eqb (r .answer) (l .answer)) (sameList (r .shown) (l .shown)) (p .0) in
+    record { answer = eqb-true (r .answer) (l .answer) (q .0); shown = same (r .shown) (l .shown) (q .1) }
+told (suc n) s (l ∷ ls) h =
+    let r = reply s (l .ask) in
+    told n (r .next) ls
+    (and-both (eqb (r .answer) (l .answer) && sameList (r .shown) (l .shown)) (plays (r .next) ls) h .1)
+
+pub line : (n : ℕ) → First (after start (take n cases)) (drop n cases)
+line n = told n start cases cases-right
+
+-- ---- where the cases begin; cases 1 to 3 are the first lines
+abbrev pub at4 : ℕ
+at4 = length (case1 ++ cases23)
+
+abbrev pub at5 : ℕ
+at5 = at4 + length case4
+
+abbrev pub at6 : ℕ
+at6 = at5 + length case5
+
+abbrev pub at7 : ℕ
+at7 = at6 + length case6
+
+abbrev pub at8 : ℕ
+at8 = at7 + length case7
+
+-- the table of what case 1 offers
+abbrev pub table1 : Table
+table1 = after start offers1 .table
+
+-- ---- an opening that answers 0
+pub open-formed : (u : ℕ) → openAnswer u ≡ 0 → WellFormed (opened u)
+unfolding openAnswer refusal
+open-formed u h = go (either (within 1 1000 u))
+  where
+    go : (within 1 1000 u ≡ true) ⊎ (within 1 1000 u ≡ false) → WellFormed (opened u)
+    go (inl y) = opened-formed u y
+    go (inr n) = let z : _≡_ {A = ℕ} 1 0 = rw n at h in absurd (omega arith)
+
+-- ---- a beacon
+-- where fewer words are lent
+pub short-beacon : (t : Table) (n : ℕ) (ws : List ℕ) → n < 4096 → beacon t (take n ws) ≡ refusedBeacon t (take n ws)
+unfolding beacon
+short-beacon t n ws h =
+    let l = length-take n ws in
+    rw (lt-ltb (length (take n ws)) 4096 (omega arith))
+
+-- where rs are the plan's records
+pub long-beacon : (t : Table) (ws : List ℕ) {rs : List (List ℕ)} → 4096 ≤ length ws → rows (wordsOf (planOf t)) ≡ rs
+    → beacon t ws ≡ record { answer = 0; count = length rs; words = wordsOf (planOf t) ++ drop (4 * length rs) ws; table = advanced t }
+unfolding beacon
+long-beacon t ws h e = rw (le-ltb (length ws) 4096 h, row-count (planOf t) e)
+
+-- one that answers 0 has written the plan, and the table is one interval on
+planned : (t : Table) (ws : List ℕ) {l : List ℕ} → beacon t ws .answer ≡ 0
+    → take (4 * beacon t ws .count) (beacon t ws .words) ≡ l → (wordsOf (planOf t) ≡ l) × (beacon t ws .table ≡ advanced t)
+unfolding beacon
+planned t ws {l} = go (ltb (length ws) 4096)
+  where
+    go : (x : Bool) → (let b = cond x (refusedBeacon t ws) (plannedBeacon t ws (planOf t)) in
+        b .answer ≡ 0 → take (4 * b .count) (b .words) ≡ l → (wordsOf (planOf t) ≡ l) × (b .table ≡ advanced t))
+    go true z e = absurd (omega arith)
+    go false z e = (sym (take-at (wordsOf (planOf t)) _ _ (length-words (planOf t))) ∙ e, refl)
+
+pub plan-told : {s : State} {l : List ℕ} → Told s (record { ask = Tick; answer = 0; shown = l })
+    → (rows (wordsOf (planOf (s .table))) ≡ rows l) × (beacon (s .table) (s .words) .table ≡ advanced (s .table))
+plan-told {s} p = let b = planned (s .table) (s .words) (p .answer) (p .shown) in (ap rows (b .0), b .1)
+
+-- a table that holds nothing has an empty plan
+pub nothing-planned : rows (wordsOf (planOf (opened 1))) ≡ []
+unfolding order tieOrder jobs choose slotsFrom stepD prepend runsFrom stepE opened wordsOf planOf
+nothing-planned = refl

@@ -1,0 +1,252 @@
+// Cases 1 to 8 and 10 of document 01, "Tested by hand", on the proved calls. Every answer, every record count and every word of a plan that
+// the document names is held to it by `check::expect`, which asks for a proof that its test passes. Case 9 reads a plan through the window,
+// which is no call here.
+ghost use Prim.Native.Nat.{_*_, _≤_};
+ghost use mathlib.Core.Path.{_≡_};
+ghost use lib.ListN.{length, drop};
+ghost use Rattle.rules.specs.Calls.{openAnswer, opened, offerAnswer, offered, heldAnswer, withdrawn, wordsOf, planOf, advanced};
+ghost use Rattle.rules.specs.WellFormed.{WellFormed};
+ghost use Rattle.planner.specs.Numbers.{beaconNumber, request};
+ghost use Rattle.expected.specs.Said.{table1};
+ghost use Rattle.expected.specs.Words.{rows, Begins, Records, Each};
+use model::Table;
+use planner::Beaconing;
+
+// ---- words
+// These words begin with those.
+fn expect_words(words: &[u32], first: &[u32])
+    requires { ⌜ Begins (now words) (now first) ⌝ }
+{
+    let mut i = 0;
+    while i < first.len() {
+        check::expect(words[i] == first[i]);
+        i += 1;
+    }
+}
+
+fn expect_records(plan: &[u32], records: &[[u32; 4]])
+    requires { ⌜ Records (now plan) (now records) ⌝ }
+{
+    let mut i = 0;
+    while i < records.len() {
+        expect_words(&plan[4 * i..], &records[i]);
+        i += 1;
+    }
+}
+
+fn expect_each(words: &[u32], word: u32)
+    requires { ⌜ Each word (now words) ⌝ }
+{
+    let mut i = 0;
+    while i < words.len() {
+        check::expect(words[i] == word);
+        i += 1;
+    }
+}
+
+// ---- the calls, each with the answer that is expected
+fn open(units: u32) -> Table
+    requires { ⌜ openAnswer units ≡ 0 ⌝ }
+    ensures is { λ r. ⌜ r ≡ opened units ⌝ }
+    ensures formed { λ r. ⌜ WellFormed r ⌝ }
+{
+    let o = planner::open(units);
+    let answer = o.answer;
+    check::expect(planner::open_number(answer) == 0);
+    o.table
+}
+
+fn offer(
+    t: Table,
+    stream: u32,
+    kind: u32,
+    period: u32,
+    min: u32,
+    max: u32,
+    life: u32,
+    expected: u32,
+) -> Table
+    requires { ⌜ WellFormed t ⌝ }
+    requires { ⌜ offerAnswer t (request stream kind period min max life) ≡ expected ⌝ }
+    ensures is { λ r. ⌜ r ≡ offered t (request stream kind period min max life) ⌝ }
+    ensures formed { λ r. ⌜ WellFormed r ⌝ }
+{
+    let o = planner::offer(t, stream, kind, period, min, max, life);
+    let answer = o.answer;
+    check::expect(planner::offer_number(answer) == expected);
+    o.table
+}
+
+fn withdraw(t: Table, stream: u32) -> Table
+    requires { ⌜ WellFormed t ⌝ }
+    requires { ⌜ heldAnswer t stream ≡ 0 ⌝ }
+    ensures is { λ r. ⌜ r ≡ withdrawn t stream ⌝ }
+    ensures formed { λ r. ⌜ WellFormed r ⌝ }
+{
+    let w = planner::withdraw(t, stream);
+    let answer = w.answer;
+    check::expect(planner::held_number(answer) == 0);
+    w.table
+}
+
+fn expect_beacon(b: Beaconing, expected: u32, count: usize)
+    requires { ⌜ beaconNumber (b .answer) ≡ expected ⌝ }
+    requires { ⌜ b .count ≡ count ⌝ }
+{
+    let answer = b.answer;
+    check::expect(planner::beacon_number(answer) == expected);
+    check::expect(b.count == count);
+}
+
+// The plan is these records, each with its stream, job, start and length.
+fn beacon(t: Table, plan: &mut [u32], records: &[[u32; 4]]) -> Table
+    requires { ⌜ WellFormed t ⌝ }
+    requires { ⌜ 4096 ≤ length (now plan) ⌝ }
+    requires { ⌜ rows (wordsOf (planOf t)) ≡ now records ⌝ }
+    ensures is { λ r. ⌜ r ≡ advanced t ⌝ }
+    ensures formed { λ r. ⌜ WellFormed r ⌝ }
+    ensures later { λ r. let n = 4 * length (now (records .entry)) in ⌜ drop n (now (plan .exit)) ≡ drop n (now (plan .entry)) ⌝ }
+{
+    let b = planner::beacon(t, plan);
+    expect_beacon(b, 0, records.len());
+    expect_records(plan, records);
+    b.table
+}
+
+// With 4,095 words of the plan's memory lent: refused, nothing changes.
+fn refused_beacon(t: Table, plan: &mut [u32]) -> Table
+    requires { ⌜ WellFormed t ⌝ }
+    requires { ⌜ 4095 ≤ length (now plan) ⌝ }
+    ensures is { λ r. ⌜ r ≡ t ⌝ }
+    ensures formed { λ r. ⌜ WellFormed r ⌝ }
+    ensures words { λ r. ⌜ now (plan .exit) ≡ now (plan .entry) ⌝ }
+{
+    let b = planner::beacon(t, &mut plan[..4095]);
+    expect_beacon(b, 30, 0);
+    b.table
+}
+
+// ---- the cases
+// What case 1 offers, and cases 4 and 10 go on from.
+fn offers_of_case_1() -> Table
+    ensures is { λ r. ⌜ r ≡ table1 ⌝ }
+    ensures formed { λ r. ⌜ WellFormed r ⌝ }
+{
+    let t = open(1);
+    let t = offer(t, 5, 1, 2, 100, 300, 4, 0);
+    let t = offer(t, 7, 2, 2, 600, 1000, 4, 0);
+    offer(t, 9, 3, 1, 300, 0, 1, 0)
+}
+
+fn beacon_of_case_1(t: Table, plan: &mut [u32]) -> Table
+    requires { ⌜ t ≡ table1 ⌝ }
+    requires { ⌜ WellFormed t ⌝ }
+    requires { ⌜ 4096 ≤ length (now plan) ⌝ }
+    ensures is { λ r. ⌜ r ≡ advanced table1 ⌝ }
+    ensures formed { λ r. ⌜ WellFormed r ⌝ }
+    ensures later { λ r. ⌜ drop 20 (now (plan .exit)) ≡ drop 20 (now (plan .entry)) ⌝ }
+{
+    let records = [
+        [5u32, 0, 0, 100],
+        [9, 0, 100, 300],
+        [7, 0, 400, 112],
+        [5, 1, 512, 100],
+        [7, 0, 612, 412],
+    ];
+    beacon(t, plan, &records)
+}
+
+fn cases_1_to_3(plan: &mut [u32])
+    requires { ⌜ 4096 ≤ length (now plan) ⌝ }
+{
+    let t = offers_of_case_1();
+    let t = beacon_of_case_1(t, plan);
+    let second = [
+        [5u32, 0, 0, 287],
+        [7, 0, 287, 225],
+        [5, 1, 512, 287],
+        [7, 0, 799, 225],
+    ];
+    let t = beacon(t, plan, &second);
+    let third = [
+        [5u32, 0, 0, 156],
+        [7, 0, 156, 356],
+        [5, 1, 512, 156],
+        [7, 0, 668, 356],
+    ];
+    beacon(t, plan, &third);
+}
+
+// The transfer is of stream 11.
+fn case_4() {
+    let t = offers_of_case_1();
+    offer(t, 11, 3, 2, 748, 0, 2, 0);
+    let t = offers_of_case_1();
+    offer(t, 11, 3, 2, 749, 0, 2, 17);
+}
+
+fn case_5(plan: &mut [u32])
+    requires { ⌜ 4096 ≤ length (now plan) ⌝ }
+{
+    let t = open(1);
+    let t = offer(t, 1, 2, 2, 1024, 1024, 2, 0);
+    let t = offer(t, 2, 2, 2, 1024, 1024, 2, 0);
+    let records = [[1u32, 0, 0, 1024]];
+    let t = beacon(t, plan, &records);
+    let t = withdraw(t, 1);
+    offer(t, 3, 2, 1, 1, 1, 1, 17);
+}
+
+fn case_6() {
+    let t = open(1);
+    let t = offer(t, 1, 1, 2, 512, 512, 1, 0);
+    offer(t, 2, 1, 2, 1, 1, 1, 17);
+}
+
+fn case_7() {
+    let t = open(1);
+    offer(t, 1, 1, 3, 1, 1, 1, 13);
+    let t = open(3);
+    offer(t, 1, 1, 3, 1, 1, 1, 0);
+}
+
+fn case_8() {
+    let t = open(1);
+    let t = offer(t, 1, 2, 2, 1, 1, 3, 15);
+    offer(t, 1, 2, 2, 1, 1, 4, 0);
+}
+
+// Refused at 4,095 words, the table and every word are as before: at 4,096 the same table gives the plan of case 1, and the words after it
+// stay. The memory is all 77,777, a number that the plan does not have.
+fn case_10(plan: &mut [u32])
+    requires { ⌜ length (now plan) ≡ 4096 ⌝ }
+    requires { ⌜ Each 77777 (now plan) ⌝ }
+{
+    let t = offers_of_case_1();
+    let t = refused_beacon(t, plan);
+    expect_each(plan, 77777);
+    beacon_of_case_1(t, plan);
+    expect_each(&plan[20..], 77777);
+}
+
+// Of a table that holds nothing.
+fn case_10_empty(plan: &mut [u32])
+    requires { ⌜ 4096 ≤ length (now plan) ⌝ }
+{
+    let t = open(1);
+    beacon(t, plan, &[]);
+}
+
+fn main() {
+    let mut plan = [0u32; 4096];
+    cases_1_to_3(&mut plan);
+    case_4();
+    case_5(&mut plan);
+    case_6();
+    case_7();
+    case_8();
+    let mut lent = [77777u32; 4096];
+    case_10(&mut lent);
+    case_10_empty(&mut plan);
+    io::write_all(1, b"cases 1 to 8 and 10: as expected\n");
+}
