@@ -41,11 +41,11 @@ slice-aggregate-case-10-empty c = search needs
 case-10-empty-requires : tie.Need-case-10-empty-requires
 case-10-empty-requires c κs = search needs
 
-slice-aggregate-line : tie.Need-slice-aggregate-line
-slice-aggregate-line c = search needs
+slice-aggregate-write-all : tie.Need-slice-aggregate-write-all
+slice-aggregate-write-all c = search needs
 
-line-requires : tie.Need-line-requires
-line-requires c κs = search needs
+write-all-requires : tie.Need-write-all-requires
+write-all-requires c κs = search needs
 
 returns : tie.Need-returns
 returns c = search needs
@@ -66,6 +66,6 @@ main-spec =
     case-10-requires
     slice-aggregate-case-10-empty
     case-10-empty-requires
-    slice-aggregate-line
-    line-requires
+    slice-aggregate-write-all
+    write-all-requires
     returns)
