@@ -1,19 +1,38 @@
-# The two commands of the README.
-.PHONY: show test reference cost
+# The commands of the README.
+.PHONY: show test reference compared fuzz lists cost
 
-# Prove everything (quickly, where nothing has changed), and run the proved calls on the worked cases of document 01.
+# Prove what the program rests on (quickly, where nothing has changed), and run it on a school's day.
 show:
-	@rt check
-	@echo
-	@target/bin/cases
+	@rt check shelf > /dev/null
+	@target/bin/shelf < reference/data/school.in
 
 # The gate: layout, the second implementation's own tests and its stored rows, then every proof from nothing and every must-fail edit.
-test: reference
+test: reference compared
 	@rt fmt --check
 	@rt ci
 
 reference:
 	@cargo test --offline --release --quiet --manifest-path reference/Cargo.toml
+	@cargo test --offline --release --quiet --manifest-path compare/Cargo.toml
+
+# The rows that rt ci holds the program to are those of the second implementation, on its stored lists.
+compared: reference
+	@cargo build --offline --release --quiet --manifest-path reference/Cargo.toml
+	@cat reference/data/*.in | cmp - crates/shelf/stdin
+	@reference/target/release/shelf-reference < crates/shelf/stdin | cmp - crates/shelf/stdout
+
+# Stores the rows anew, after a change of the lists.
+lists:
+	@cargo build --offline --release --quiet --manifest-path reference/Cargo.toml
+	@cat reference/data/*.in > crates/shelf/stdin
+	@reference/target/release/shelf-reference < crates/shelf/stdin > crates/shelf/stdout
+
+# Compares the program with the second implementation on fresh rows, legal and damaged, at once and in packets of 1 to 4,096 bytes.
+ROWS ?= 200000
+SEED ?=
+fuzz:
+	@rt check shelf > /dev/null
+	@cargo run --offline --release --quiet --manifest-path compare/Cargo.toml -- target/bin/shelf $(ROWS) $(SEED)
 
 # Instructions that four beacons on the same 32 requests cost, first at 15 time units, then at 1,000 (valgrind's callgrind).
 cost:
