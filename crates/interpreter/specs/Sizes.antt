@@ -81,5 +81,6 @@ pub left-taken : (chunk : List ℕ) (left : ℕ) {taken : ℕ} → left ≤ leng
     → (taken ≤ length (leftOf chunk left)) × (0 < length (leftOf chunk left) → 0 < taken) → (taken ≤ left) × (0 < taken)
 left-taken chunk left h some (most, on) =
     let from = length chunk - left in
-    let all = ap length (take-all (length chunk - from) (drop from chunk) (omega (arith, length-drop from chunk))) ∙ length-drop from chunk in
+    let kept = length-drop from chunk in
+    let all = ap length (take-all (length chunk - from) (drop from chunk) (omega arith)) ∙ kept in
     (omega arith, on (omega arith))

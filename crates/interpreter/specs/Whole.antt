@@ -114,7 +114,9 @@ unfolding commandIn commandOf
 line-command row = ⊎-elim short long (either (leb (length row) rowMost))
   where
     short : leb (length row) rowMost ≡ true → commandIn (lineOf row) ≡ commandOf row
-    short e = let k = kept-whole row (leb-true _ _ e) in ap (λ x. cond (leb x rowMost) (commandOf (textOf (lineOf row))) OtherForm) (k .0) ∙ rw (e, k .1, e) refl
+    short e =
+        let k = kept-whole row (leb-true _ _ e) in
+        ap (λ n. cond (leb n rowMost) (commandOf (textOf (lineOf row))) OtherForm) (k .0) ∙ rw (e, k .1, e) refl
 
     long : leb (length row) rowMost ≡ false → commandIn (lineOf row) ≡ commandOf row
     long e = rw (kept-long row (leb-false _ _ e), e) refl

@@ -12,7 +12,8 @@ use Rattle.rows.specs.Lines.{endsRow, afterByte, cutFrom}
 
 module _ (bs : List ℕ) (i : ℕ) (r : Reader) where
   -- the byte at i ends the row
-  pub cut-here : i < length bs → endsRow r (getD bs i 0) ≡ true → cutFrom i r (drop i bs) ≡ record { reader = r; taken = i + 1; ended = true }
+  pub cut-here : i < length bs → endsRow r (getD bs i 0) ≡ true
+      → cutFrom i r (drop i bs) ≡ record { reader = r; taken = i + 1; ended = true }
   unfolding cutFrom
   cut-here h e = rw (left-next bs i 0 h, e, add-one) refl
 

@@ -42,21 +42,27 @@ same-length c = search needs
 
 returns : tie.Need-returns
 unfolding planAfter
-returns c = let e = c .before .before .answer-open .ensures in rw (c .before .before .before .before .before .c .given .1) (e .0, (e .1 .0, (e .1 .1, refl)))
+returns c =
+    let r5 = c .before .before .before .before .before in
+    let e = c .before .before .answer-open .ensures in rw (r5 .c .given .1) (e .0, (e .1 .0, (e .1 .1, refl)))
 
 same-length-2 : tie.Need-same-length-2
 same-length-2 c = search needs
 
 returns-2 : tie.Need-returns-2
 unfolding planAfter
-returns-2 c = let e = c .before .before .answer-offer .ensures in rw (c .before .before .before .before .before .c2 .given .1) (e .0, (e .1 .0, (e .1 .1, refl)))
+returns-2 c =
+    let r5 = c .before .before .before .before .before in
+    let e = c .before .before .answer-offer .ensures in rw (r5 .c2 .given .1) (e .0, (e .1 .0, (e .1 .1, refl)))
 
 same-length-3 : tie.Need-same-length-3
 same-length-3 c = search needs
 
 returns-3 : tie.Need-returns-3
 unfolding planAfter
-returns-3 c = let e = c .before .before .answer-withdraw .ensures in rw (c .before .before .before .before .before .c3 .given .1) (e .0, (e .1 .0, (e .1 .1, refl)))
+returns-3 c =
+    let r5 = c .before .before .before .before .before in
+    let e = c .before .before .answer-withdraw .ensures in rw (r5 .c3 .given .1) (e .0, (e .1 .0, (e .1 .1, refl)))
 
 same-length-4 : tie.Need-same-length-4
 same-length-4 c = search needs
@@ -65,14 +71,19 @@ same-length-5 : tie.Need-same-length-5
 same-length-5 c = search needs
 
 returns-4 : tie.Need-returns-4
-returns-4 c = rw (c .before .before .before .before .before .before .before .enum-told .given .1) (c .before .before .before .before .answer-beacon .ensures)
+returns-4 c =
+    let r4 = c .before .before .before .before in
+    let r7 = r4 .before .before .before in
+    rw (r7 .enum-told .given .1) (r4 .answer-beacon .ensures)
 
 same-length-6 : tie.Need-same-length-6
 same-length-6 c = search needs
 
 returns-5 : tie.Need-returns-5
 unfolding stateAfter planAfter rowsFor
-returns-5 c = let e = c .before .before .plain-row .ensures in rw (c .before .before .before .before .before .enum-told2 .given .1) (refl, (e .0, (e .1, refl)))
+returns-5 c =
+    let r5 = c .before .before .before .before .before in
+    let e = c .before .before .plain-row .ensures in rw (r5 .enum-told2 .given .1) (refl, (e .0, (e .1, refl)))
 
 pub answer-spec : {M : Type 1} → statement M
 answer-spec =

@@ -21,10 +21,16 @@ same-length c = search needs
 
 returns : tie.Need-returns
 unfolding stateAfter planAfter rowsFor
-returns c = let w = c .before .before .plain-row .ensures in rw (not-true (c .before .before .before .before .before .before .before .before .before .args .s .ready) (c .before .before .before .before .before .if1 .taken), append-nil) (refl, (w .0, (w .1, refl)))
+returns c =
+    let r5 = c .before .before .before .before .before in
+    let r9 = r5 .before .before .before .before in
+    let w = c .before .before .plain-row .ensures in
+    rw (not-true (r9 .args .s .ready) (r5 .if1 .taken), append-nil) (refl, (w .0, (w .1, refl)))
 
 beacon-requires : tie.Need-beacon-requires
-beacon-requires c κs = c .before .before .before .before .before .pre .0 (not-false (c .before .before .before .before .before .args .s .ready) (c .before .if1 .left))
+beacon-requires c κs =
+    let r5 = c .before .before .before .before .before in
+    r5 .pre .0 (not-false (r5 .args .s .ready) (c .before .if1 .left))
 
 beacon-number-requires : tie.Need-beacon-number-requires
 beacon-number-requires c κs = search needs
@@ -37,12 +43,17 @@ plain-row-requires-2 c κs = search needs
 
 slot-rows-requires : tie.Need-slot-rows-requires
 slot-rows-requires c κs =
-    let w = c .before .before .before .before .before .before .before .before .before .before .before .before .before .before .before .before .pre in
-    let m = made (w .0 (not-false (c .before .before .before .before .before .before .before .before .before .before .before .before .before .before .before .before .args .s .ready) (c .before .before .before .before .before .before .before .before .before .before .before .before .if1 .left))) (w .1 .0) (c .before .before .before .before .before .before .before .before .before .before .beacon .ensures) in
-    let k = c .before .before .before .before .before .before .before .before .before .before .beacon .kept in
-    let o = c .before .before .before .before .plain-row2 .kept in
-    let l = plain-row-most beaconVerb (c .before .before .before .before .before .before .before .beacon-number .result) in
-    let e = c .before .before .before .before .plain-row2 .ensures .0 in
+    let r4 = c .before .before .before .before in
+    let r7 = r4 .before .before .before in
+    let r10 = r7 .before .before .before in
+    let r12 = r10 .before .before in
+    let r16 = r12 .before .before .before .before in
+    let w = r16 .pre in
+    let m = made (w .0 (not-false (r16 .args .s .ready) (r12 .if1 .left))) (w .1 .0) (r10 .beacon .ensures) in
+    let k = r10 .beacon .kept in
+    let o = r4 .plain-row2 .kept in
+    let l = plain-row-most beaconVerb (r7 .beacon-number .result) in
+    let e = r4 .plain-row2 .ensures .0 in
     let f = m .few in
     (omega arith, omega arith)
 
@@ -55,11 +66,16 @@ same-length-3 c = search needs
 returns-2 : tie.Need-returns-2
 unfolding stateAfter planAfter rowsFor
 returns-2 c =
-    let w = c .before .before .before .before .before .before .before .before .before .before .before .before .before .before .before .before .before .before .before .before .pre in
-    let t = not-false (c .before .before .before .before .before .before .before .before .before .before .before .before .before .before .before .before .before .before .before .before .args .s .ready) (c .before .before .before .before .before .before .before .before .before .before .before .before .before .before .before .before .if1 .left) in
-    let m = made (w .0 t) (w .1 .0) (c .before .before .before .before .before .before .before .before .before .before .before .before .before .before .beacon .ensures) in
-    let n = c .before .before .before .before .before .before .before .before .before .before .before .beacon-number .ensures ∙ m .accepted in
-    let r = contract (wrote-then (wrote (c .before .before .before .before .before .before .before .before .plain-row2 .ensures)) (wrote (c .before .before .before .slot-rows .ensures))) in
+    let r8 = c .before .before .before .before .before .before .before .before in
+    let r11 = r8 .before .before .before in
+    let r14 = r11 .before .before .before in
+    let r16 = r14 .before .before in
+    let r20 = r16 .before .before .before .before in
+    let w = r20 .pre in
+    let t = not-false (r20 .args .s .ready) (r16 .if1 .left) in
+    let m = made (w .0 t) (w .1 .0) (r14 .beacon .ensures) in
+    let n = r11 .beacon-number .ensures ∙ m .accepted in
+    let r = contract (wrote-then (wrote (r8 .plain-row2 .ensures)) (wrote (c .before .before .before .slot-rows .ensures))) in
     rw (t, sym n, sym (m .rows)) (ap withTable (m .after), (r .0, (r .1, m .memory)))
 
 pub answer-beacon-spec : {M : Type 1} → statement M

@@ -1,4 +1,7 @@
-use mathlib.Core.Path.{refl, sym, ap, _∙_}
+use mathlib.Core.Path.{_≡_, refl, sym, ap, _∙_}
+use mathlib.Core.Bool.{true, false}
+use lib.Dec.{eqb}
+use Rattle.rules.specs.Calls.{openAnswer}
 use borrow.Author.Tests.{eq-eqb, ne-eqb}
 use Rattle.interpreter.specs.Meaning.{withTable, stateAfter, rowsFor}
 use borrow.Author.Needs.{needs}
@@ -23,10 +26,14 @@ same-length c = search needs
 returns : tie.Need-returns
 unfolding stateAfter rowsFor
 returns c =
-    let e = c .before .before .before .before .before .before .before .before .«open» .ensures in
-    let q = c .before .before .before .before .before .before .before .open-number .ensures ∙ e .0 in
-    let z = eq-eqb _ _ (sym q ∙ c .before .if1 .taken) in
-    let w = c .before .before .before .before .plain-row .ensures in
+    let r4 = c .before .before .before .before in
+    let r7 = r4 .before .before .before in
+    let r8 = r7 .before in
+    let r10 = r8 .before .before in
+    let e = r8 .«open» .ensures in
+    let q = r7 .open-number .ensures ∙ e .0 in
+    let z : eqb (openAnswer (r10 .args .units)) 0 ≡ true = eq-eqb _ _ (sym q ∙ c .before .if1 .taken) in
+    let w = r4 .plain-row .ensures in
     (rw z (ap withTable (e .1 ∙ rw z refl)), (rw (sym q) (w .0), rw (sym q) (w .1)))
 
 same-length-2 : tie.Need-same-length-2
@@ -35,8 +42,11 @@ same-length-2 c = search needs
 returns-2 : tie.Need-returns-2
 unfolding stateAfter rowsFor
 returns-2 c =
-    let q = c .before .before .before .before .before .before .open-number .ensures ∙ c .before .before .before .before .before .before .before .«open» .ensures .0 in
-    let z = ne-eqb _ _ (λ k. c .if1 .left (q ∙ k)) in
+    let r6 = c .before .before .before .before .before .before in
+    let r7 = r6 .before in
+    let r9 = r7 .before .before in
+    let q = r6 .open-number .ensures ∙ r7 .«open» .ensures .0 in
+    let z : eqb (openAnswer (r9 .args .units)) 0 ≡ false = ne-eqb _ _ (λ k. c .if1 .left (q ∙ k)) in
     let w = c .before .before .before .plain-row .ensures in
     (rw z refl, (rw (sym q) (w .0), rw (sym q) (w .1)))
 

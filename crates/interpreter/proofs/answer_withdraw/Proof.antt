@@ -16,7 +16,10 @@ same-length c = search needs
 
 returns : tie.Need-returns
 unfolding stateAfter rowsFor
-returns c = rw (not-true (c .before .before .before .before .before .before .before .before .args .s .ready) (c .before .before .before .before .before .if1 .taken)) (refl, c .before .before .stream-row .ensures)
+returns c =
+    let r5 = c .before .before .before .before .before in
+    let r8 = r5 .before .before .before in
+    rw (not-true (r8 .args .s .ready) (r5 .if1 .taken)) (refl, c .before .before .stream-row .ensures)
 
 withdraw-requires : tie.Need-withdraw-requires
 withdraw-requires c κs = c .before .before .before .pre .0 (not-false (c .before .before .before .args .s .ready) (c .if1 .left))
@@ -36,10 +39,14 @@ same-length-2 c = search needs
 returns-2 : tie.Need-returns-2
 unfolding stateAfter rowsFor
 returns-2 c =
-    let e = c .before .before .before .before .before .before .before .withdraw .ensures in
-    let q = c .before .before .before .before .before .before .held-number .ensures ∙ e .0 in
+    let r6 = c .before .before .before .before .before .before in
+    let r7 = r6 .before in
+    let r8 = r7 .before in
+    let r11 = r8 .before .before .before in
+    let e = r7 .withdraw .ensures in
+    let q = r6 .held-number .ensures ∙ e .0 in
     let w = c .before .before .before .stream-row2 .ensures in
-    rw (not-false (c .before .before .before .before .before .before .before .before .before .before .before .args .s .ready) (c .before .before .before .before .before .before .before .before .if1 .left)) (ap withTable (e .1), (rw (sym q) (w .0), rw (sym q) (w .1)))
+    rw (not-false (r11 .args .s .ready) (r8 .if1 .left)) (ap withTable (e .1), (rw (sym q) (w .0), rw (sym q) (w .1)))
 
 pub answer-withdraw-spec : {M : Type 1} → statement M
 answer-withdraw-spec =

@@ -1,4 +1,7 @@
-use mathlib.Core.Path.{refl, sym, _∙_}
+use mathlib.Core.Path.{_≡_, refl, sym, _∙_}
+use mathlib.Core.Bool.{true, false}
+use lib.Dec.{leb}
+use Rattle.text.specs.Rows.{rowMost}
 use native.Mathlib.Omega.{arith}
 use borrow.Author.Tests.{le-leb, lt-leb}
 use lib.ListN.{length-take}
@@ -12,18 +15,27 @@ array-share-prefix-bytes : tie.Need-array-share-prefix-bytes
 array-share-prefix-bytes c = let h = row-64 (c .before .before .args .line) (c .before .before .good .0) in omega arith
 
 slice-aggregate-command-of : tie.Need-slice-aggregate-command-of
-slice-aggregate-command-of c = let h = row-64 (c .before .before .before .args .line) (c .before .before .before .good .0) in sym (length-take (c .before .before .before .args .line .len) (c .before .before .before .args .line .bytes) ∙ omega arith)
+slice-aggregate-command-of c =
+    let s = c .before .before .before in
+    let l = s .args .line in
+    let h = row-64 l (s .good .0) in
+    sym (length-take (l .len) (l .bytes) ∙ omega arith)
 
 command-of-requires : tie.Need-command-of-requires
 command-of-requires c κs = search needs
 
 returns : tie.Need-returns
 unfolding commandIn
-returns c = rw (le-leb _ _ (c .before .before .before .if1 .taken)) (c .command-of .ensures)
+returns c =
+    let r4 = c .before .before .before .before in
+    let fits : leb (r4 .args .line .len) rowMost ≡ true = le-leb _ _ (c .before .before .before .if1 .taken) in
+    rw fits (c .command-of .ensures)
 
 returns-2 : tie.Need-returns-2
 unfolding commandIn
-returns-2 c = rw (lt-leb _ _ (c .if1 .left)) refl
+returns-2 c =
+    let long : leb (c .before .args .line .len) rowMost ≡ false = lt-leb _ _ (c .if1 .left) in
+    rw long refl
 
 pub command-in-spec : {M : Type 1} → statement M
 command-in-spec =

@@ -32,10 +32,14 @@ same-length-2 c = search needs
 returns-2 : tie.Need-returns-2
 unfolding lastRows lastPlan
 returns-2 c =
-    let u = c .before .before .before .before .before .before .before .before .before .before .unheld .ensures in
-    let z = ne-eqb _ _ (λ q. c .before .before .before .before .before .before .before .before .if1 .left (ap (λ (l : Line). l .len) u ∙ q)) in
-    let k = c .before .before .before .before .before .before .before .command-in .ensures ∙ ap commandIn u in
-    let a = c .before .before .before .before .answer .ensures in
+    let r4 = c .before .before .before .before in
+    let r7 = r4 .before .before .before in
+    let r8 = r7 .before in
+    let r10 = r8 .before .before in
+    let u = r10 .unheld .ensures in
+    let z = ne-eqb _ _ (λ q. r8 .if1 .left (ap (λ (l : Line). l .len) u ∙ q)) in
+    let k = r7 .command-in .ensures ∙ ap commandIn u in
+    let a = r4 .answer .ensures in
     rw (z, sym k) (a .1 .0, (a .1 .1 .0, a .1 .1 .1))
 
 pub finish-spec : {M : Type 1} → statement M

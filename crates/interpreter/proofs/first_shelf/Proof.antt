@@ -20,8 +20,9 @@ at-start-requires c κs = search needs
 returns : tie.Need-returns
 unfolding firstShelf firstState openAnswer refusal
 returns c =
-    let e : record { reader = c .at-start .result; state = record { ready = false; table = c .before .before .«open» .result .table } } ≡ firstShelf =
-    rw (c .at-start .ensures, c .before .before .«open» .ensures .1) refl in
+    let o = c .before .before .«open» in
+    let e : record { reader = c .at-start .result; state = record { ready = false; table = o .result .table } } ≡ firstShelf =
+    rw (c .at-start .ensures, o .ensures .1) refl in
     (e, subst (λ (x : Shelf). Ready (x .state)) (sym e) ready-first)
 
 pub first-shelf-spec : {M : Type 1} → statement M

@@ -18,13 +18,15 @@ cut-row-requires c κs = search needs
 returns : tie.Need-returns
 unfolding stepShelf stepRows stepPlan
 returns c =
-    let e = c .before .before .before .before .cut-row .ensures in
-    let z = ap (λ (x : Cut). x .ended) (sym e) ∙ not-true (c .before .before .before .before .cut-row .result .ended) (c .if1 .taken) in
-    let s = c .before .before .before .before .before .before .before .before .args .s in
-    let after : record { reader = c .before .before .before .before .cut-row .result .reader; state = s .state } ≡ stepShelf s (now (c .before .before .before .before .before .before .before .before .args .chunk)) =
+    let r4 = c .before .before .before .before in
+    let r8 = r4 .before .before .before .before in
+    let e = r4 .cut-row .ensures in
+    let z = ap (λ (x : Cut). x .ended) (sym e) ∙ not-true (r4 .cut-row .result .ended) (c .if1 .taken) in
+    let s = r8 .args .s in
+    let after : record { reader = r4 .cut-row .result .reader; state = s .state } ≡ stepShelf s (now (r8 .args .chunk)) =
     rw z (ap (λ (x : Cut). record { reader = x .reader; state = s .state }) e) in (
       (after, rw z (ap (λ (x : Cut). x .taken) e, (omega arith, (sym (written-none _ _), refl)))),
-      subst (λ (x : Shelf). Ready (x .state)) (sym after) (ready-step s _ (c .before .before .before .before .before .before .before .before .pre .0)),
+      subst (λ (x : Shelf). Ready (x .state)) (sym after) (ready-step s _ (r8 .pre .0)),
     )
 
 command-in-requires : tie.Need-command-in-requires
@@ -45,15 +47,20 @@ same-length-2 c = search needs
 returns-2 : tie.Need-returns-2
 unfolding stepShelf stepRows stepPlan
 returns-2 c =
-    let e = c .before .before .before .before .before .before .before .before .before .before .before .before .before .before .cut-row .ensures in
-    let z = ap (λ (x : Cut). x .ended) (sym e) ∙ not-false (c .before .before .before .before .before .before .before .before .before .before .before .before .before .before .cut-row .result .ended) (c .before .before .before .before .before .before .before .before .before .before .if1 .left) in
-    let k = c .before .before .before .before .before .before .before .before .before .command-in .ensures ∙ ap (λ (x : Cut). commandIn (x .reader .line)) e in
-    let a = c .before .before .before .before .before .before .answer .ensures in
-    let s = c .before .before .before .before .before .before .before .before .before .before .before .before .before .before .before .before .before .before .args .s in
-    let after : record { reader = c .before .at-start .result; state = c .before .before .before .before .before .before .answer .result .state } ≡ stepShelf s (now (c .before .before .before .before .before .before .before .before .before .before .before .before .before .before .before .before .before .before .args .chunk)) =
+    let r6 = c .before .before .before .before .before .before in
+    let r9 = r6 .before .before .before in
+    let r10 = r9 .before in
+    let r14 = r10 .before .before .before .before in
+    let r18 = r14 .before .before .before .before in
+    let e = r14 .cut-row .ensures in
+    let z = ap (λ (x : Cut). x .ended) (sym e) ∙ not-false (r14 .cut-row .result .ended) (r10 .if1 .left) in
+    let k = r9 .command-in .ensures ∙ ap (λ (x : Cut). commandIn (x .reader .line)) e in
+    let a = r6 .answer .ensures in
+    let s = r18 .args .s in
+    let after : record { reader = c .before .at-start .result; state = r6 .answer .result .state } ≡ stepShelf s (now (r18 .args .chunk)) =
     rw (z, sym k, c .before .at-start .ensures, a .0) refl in (
       (after, rw (z, sym k) (ap (λ (x : Cut). x .taken) e, (a .1 .0, (a .1 .1 .0, a .1 .1 .1)))),
-      subst (λ (x : Shelf). Ready (x .state)) (sym after) (ready-step s _ (c .before .before .before .before .before .before .before .before .before .before .before .before .before .before .before .before .before .before .pre .0)),
+      subst (λ (x : Shelf). Ready (x .state)) (sym after) (ready-step s _ (r18 .pre .0)),
     )
 
 pub serve-spec : {M : Type 1} → statement M

@@ -1,5 +1,8 @@
 use borrow.Author.Tests.{eq-eqb, ne-eqb}
-use mathlib.Core.Path.{refl}
+use mathlib.Core.Path.{_≡_, refl}
+use mathlib.Core.Bool.{true}
+use lib.Dec.{eqb}
+use Rattle.text.specs.Rows.{cr}
 use Rattle.rows.specs.Lines.{afterByte}
 use borrow.Author.Needs.{needs}
 use Rattle.rows.proofs.after_byte.Statement.{statement}
@@ -14,7 +17,9 @@ unheld-requires c κs = search needs
 
 returns : tie.Need-returns
 unfolding afterByte
-returns c = rw (eq-eqb _ _ (c .if1 .taken), c .before .unheld .ensures) refl
+returns c =
+    let is-cr : eqb (c .before .before .args .b) cr ≡ true = eq-eqb _ _ (c .if1 .taken) in
+    rw (is-cr, c .before .unheld .ensures) refl
 
 with-byte-requires : tie.Need-with-byte-requires
 with-byte-requires c κs = search needs

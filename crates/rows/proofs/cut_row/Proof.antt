@@ -31,7 +31,10 @@ add-t12 : tie.Need-add-t12 Inv-loop μ-loop
 add-t12 c = search needs
 
 returns : tie.Need-returns Inv-loop μ-loop
-returns c = let l = c .before .before .before .before .loop in sym (cut-here _ _ _ (c .before .before .before .loop-test .taken) (sym (c .before .ends-row .ensures) ∙ c .if1 .taken)) ∙ l .inv .1
+returns c =
+    let t = c .before .before .before in
+    let ends = sym (c .before .ends-row .ensures) ∙ c .if1 .taken in
+    sym (cut-here _ _ _ (t .loop-test .taken) ends) ∙ t .before .loop .inv .1
 
 after-byte-requires : tie.Need-after-byte-requires Inv-loop μ-loop
 after-byte-requires c κs = search needs
@@ -44,8 +47,9 @@ loop-less c = search needs
 
 loop-again : tie.Need-loop-again Inv-loop μ-loop
 loop-again c =
-    let l = c .before .before .before .before .before .loop in
-    (omega arith, rw (c .after-byte .ensures) (sym (cut-on _ _ _ (c .before .before .before .before .loop-test .taken) (sym (c .before .before .ends-row .ensures) ∙ c .before .if1 .left)) ∙ l .inv .1))
+    let t = c .before .before .before .before in
+    let on = sym (c .before .before .ends-row .ensures) ∙ c .before .if1 .left in
+    (omega arith, rw (c .after-byte .ensures) (sym (cut-on _ _ _ (t .loop-test .taken) on) ∙ t .before .loop .inv .1))
 
 returns-2 : tie.Need-returns-2 Inv-loop μ-loop
 returns-2 c = sym (cut-through _ _ _ (c .loop-test .left)) ∙ c .before .loop .inv .1

@@ -1,8 +1,8 @@
 use mathlib.Core.Path.{_≡_, refl, _∙_}
 use native.Mathlib.Omega.{arith}
-use borrow.Author.Needs.{needs}
 use lib.ListN.{length}
 use Rattle.interpreter.specs.Room.{Ready}
+use borrow.Author.Needs.{needs}
 use Rattle.shelf.proofs.serve_all.Statement.{statement}
 use Rattle.shelf.proofs.serve_all.Tie as tie
 
@@ -21,21 +21,32 @@ loop-holds c = (c .first-shelf .ensures .1, (refl, (refl, refl)))
 
 serve-some-requires : tie.Need-serve-some-requires Inv-loop μ-loop
 serve-some-requires c κs =
-    let p = c .before .before .before .before .before .before .before .before .before .pre in
-    let i = c .before .before .before .before .loop .inv in
+    let r4 = c .before .before .before .before in
+    let r9 = r4 .before .before .before .before .before in
+    let p = r9 .pre in
+    let i = r4 .loop .inv in
     let l = i .1 .1 in
     let o = l .1 in
     let a = l .0 in
     (i .0, (omega arith, omega arith))
 
 same-length : tie.Need-same-length Inv-loop μ-loop
-same-length c = c .before .before .before .before .before .before .before .before .serve-some .kept .1 .0 ∙ c .before .before .before .before .before .before .before .before .before .before .before .before .before .loop .inv .1 .0
+same-length c =
+    let r8 = c .before .before .before .before .before .before .before .before in
+    let r13 = r8 .before .before .before .before .before in
+    r8 .serve-some .kept .1 .0 ∙ r13 .loop .inv .1 .0
 
 same-length-2 : tie.Need-same-length-2 Inv-loop μ-loop
-same-length-2 c = c .before .before .before .before .before .before .before .before .serve-some .kept .1 .1 .0 ∙ c .before .before .before .before .before .before .before .before .before .before .before .before .before .loop .inv .1 .1 .0
+same-length-2 c =
+    let r8 = c .before .before .before .before .before .before .before .before in
+    let r13 = r8 .before .before .before .before .before in
+    r8 .serve-some .kept .1 .1 .0 ∙ r13 .loop .inv .1 .1 .0
 
 same-length-3 : tie.Need-same-length-3 Inv-loop μ-loop
-same-length-3 c = c .before .before .before .before .before .before .before .before .serve-some .kept .1 .1 .1 .0 ∙ c .before .before .before .before .before .before .before .before .before .before .before .before .before .loop .inv .1 .1 .1
+same-length-3 c =
+    let r8 = c .before .before .before .before .before .before .before .before in
+    let r13 = r8 .before .before .before .before .before in
+    r8 .serve-some .kept .1 .1 .1 .0 ∙ r13 .loop .inv .1 .1 .1
 
 returns : tie.Need-returns Inv-loop μ-loop
 returns c = search needs
@@ -48,9 +59,11 @@ loop-less c = search needs
 
 loop-again : tie.Need-loop-again Inv-loop μ-loop
 loop-again c =
-    let k = c .before .before .before .before .before .before .before .before .before .serve-some .kept in
-    let i = c .before .before .before .before .before .before .before .before .before .before .before .before .before .before .loop .inv in
-    (c .before .before .before .before .before .before .before .before .before .serve-some .ensures, (k .1 .0 ∙ i .1 .0, (k .1 .1 .0 ∙ i .1 .1 .0, k .1 .1 .1 .0 ∙ i .1 .1 .1)))
+    let r9 = c .before .before .before .before .before .before .before .before .before in
+    let r14 = r9 .before .before .before .before .before in
+    let k = r9 .serve-some .kept in
+    let i = r14 .loop .inv in
+    (r9 .serve-some .ensures, (k .1 .0 ∙ i .1 .0, (k .1 .1 .0 ∙ i .1 .1 .0, k .1 .1 .1 .0 ∙ i .1 .1 .1)))
 
 same-length-4 : tie.Need-same-length-4 Inv-loop μ-loop
 same-length-4 c = c .before .loop .inv .1 .0

@@ -24,10 +24,12 @@ finish-requires c κs = search needs
 
 put-requires : tie.Need-put-requires
 put-requires c κs =
-    let p = c .before .before .before .before .before .before .before .before .before .before .before .before .before .before .before .before .before .pre in
-    let e = c .before .before .before .before .before .finish .ensures .0 in
-    let m = last-most (c .before .before .before .before .before .before .before .before .before .before .before .before .before .before .before .before .before .args .s) (p .0) in
-    let k = c .before .before .before .before .before .finish .kept in
+    let r5 = c .before .before .before .before .before in
+    let r17 = r5 .before .before .before .before .before .before .before .before .before .before .before .before in
+    let p = r17 .pre in
+    let e = r5 .finish .ensures .0 in
+    let m = last-most (r17 .args .s) (p .0) in
+    let k = r5 .finish .kept in
     omega arith
 
 same-length-2 : tie.Need-same-length-2
