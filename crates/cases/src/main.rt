@@ -1,6 +1,5 @@
 // Runs the proved calls on the cases of document 01, "Tested by hand", and prints a row for each call and each record. The rows that the
-// document gives are stored beside this file, in `stdout`, and every run is held to them. Case 9 reads a plan through the window, which
-// is no call here.
+// document gives are stored beside this file, in `stdout`, and every run is held to them.
 ghost use Prim.Native.Nat.{_≤_};
 ghost use lib.ListN.{length};
 ghost use Rattle.rules.specs.WellFormed.{WellFormed};
@@ -61,6 +60,22 @@ fn cases_6_to_8() {
     shown::offer(t, 1, 2, 2, 1, 1, 4);
 }
 
+// Case 1's plan through the window. Then the refusals: one record more than the memory has, with from after until as well; the largest
+// 32-bit count; two records that start together.
+fn case_9() {
+    shown::line(b"case 9");
+    let mut plan = [0u32; 4096];
+    let t = offers_of_case_1();
+    let b = shown::tick(t, &mut plan);
+    shown::window(&plan, b.count, 100, 512);
+    shown::window(&plan, b.count, 512, 512);
+    shown::window(&plan, b.count, 513, 512);
+    shown::window(&plan, 1025, 513, 512);
+    shown::window(&plan, 4294967295, 100, 512);
+    let together = [5u32, 0, 100, 10, 7, 0, 100, 10];
+    shown::window(&together, 2, 100, 512);
+}
+
 // How many words are this one.
 fn count_of(word: u32, words: &[u32]) -> usize
     ensures { λ r. ⌜ r ≤ length (now (words .entry)) ⌝ }
@@ -114,5 +129,6 @@ fn main() {
     case_4();
     case_5(&mut plan);
     cases_6_to_8();
+    case_9();
     case_10();
 }

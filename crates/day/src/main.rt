@@ -48,18 +48,14 @@ fn intervals(t: Table, count: u32, plan: &mut [u32]) -> Table
     table
 }
 
-// Intervals whose plans are.
-fn plans(t: Table, count: u32, plan: &mut [u32]) -> Table
+// Three whose plans are.
+fn three_plans(t: Table, plan: &mut [u32]) -> Table
     requires { ⌜ WellFormed t ⌝ }
     ensures { λ r. ⌜ WellFormed r ⌝ }
 {
-    let mut table = t;
-    let mut i = 0;
-    while i < count {
-        table = shown::beacon(table, plan);
-        i += 1;
-    }
-    table
+    let t = shown::beacon(t, plan);
+    let t = shown::beacon(t, plan);
+    shown::beacon(t, plan)
 }
 
 // ---- the lessons
@@ -167,7 +163,7 @@ fn fourth_lesson(t: Table, plan: &mut [u32]) -> Table
     let t = shown::offer(t, 105, 3, 2, 40000, 0, 2);
     let t = shown::offer(t, 106, 3, 3, 44801, 0, 3);
     let t = shown::offer(t, 106, 3, 3, 44800, 0, 3);
-    plans(t, 3, plan)
+    three_plans(t, plan)
 }
 
 // A departure frees the slots to come, and no slot that is gone.
@@ -183,7 +179,7 @@ fn fifth_lesson(t: Table, plan: &mut [u32]) -> Table
     shown::enquire(t, 25);
     let t = shown::offer(t, 26, 2, 1, 1, 1, 1);
     let t = shown::offer(t, 26, 2, 3, 102400, 204800, 3);
-    plans(t, 3, plan)
+    three_plans(t, plan)
 }
 
 // All come back to read, and go home before the bell.

@@ -161,3 +161,11 @@ pub fn beacon(t: Table, plan: &mut [u32]) -> Table
     slot_rows(plan, b.count);
     b.table
 }
+
+// The answer, and every record of the part that the window hands back.
+pub fn window(plan: &[u32], count: usize, from: u32, until: u32) {
+    let mut answer: u32 = 0;
+    let part = window::window(plan, count, from, until, &mut answer);
+    plain_row(b"window", answer);
+    slot_rows(part, part.len() / 4);
+}

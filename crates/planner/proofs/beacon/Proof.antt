@@ -1,10 +1,12 @@
-use mathlib.Core.Path.{ap, _∙_}
+use mathlib.Core.Path.{_≡_, ap, _∙_}
+use mathlib.Core.Bool.{true}
 use mathlib.Core.List.{_++_}
 use Prim.Native.Nat.{_*_}
-use lib.ListN.{drop}
+use lib.Dec.{ltb}
+use lib.ListN.{length, drop}
 use denote.Ref.{now}
 use borrow.Author.Tests.{lt-ltb, le-ltb}
-use Rattle.rules.specs.Calls.{wordsOf, planOf, beacon}
+use Rattle.rules.specs.Calls.{recordWords, mostRecords, wordsOf, planOf, beacon}
 use Rattle.laws.specs.Places.{formed-tidy}
 use borrow.Author.Needs.{needs}
 use Rattle.planner.proofs.beacon.Statement.{statement}
@@ -12,7 +14,9 @@ use Rattle.planner.proofs.beacon.Tie as tie
 
 returns : tie.Need-returns
 unfolding beacon
-returns c = (let q = lt-ltb _ _ (c .if1 .taken) in (rw q, (rw q, (rw q, rw q))))
+returns c =
+    let q : ltb (length (now (c .before .before .args .plan))) (recordWords * mostRecords) ≡ true = lt-ltb _ _ (c .if1 .taken) in
+    (rw q, (rw q, (rw q, rw q)))
 
 sharing-of-requires : tie.Need-sharing-of-requires
 sharing-of-requires c κs = formed-tidy (c .before .before .pre)

@@ -1,11 +1,11 @@
 use mathlib.Core.Path.{_≡_, sym, ap, _∙_}
 use mathlib.Core.Bool.{true, false, cond}
 use Prim.Native.Nat.{ℕ}
-use lib.Dec.{eqb}
+use lib.Dec.{leb, eqb}
 use borrow.Author.Tests.{le-leb, lt-leb, not-true, not-false}
 use borrow.Author.Needs.{needs}
 use Rattle.model.specs.Requests.{refusal, streamInRange}
-use Rattle.rules.specs.Calls.{holds}
+use Rattle.rules.specs.Calls.{places, holds}
 use Rattle.laws.specs.Offers.{offerChecksBut, isFull}
 use Rattle.planner.specs.Offer.{but-last}
 use Rattle.planner.proofs.first_refusal.Statement.{statement}
@@ -29,7 +29,10 @@ is-taken-requires : tie.Need-is-taken-requires
 is-taken-requires c κs = search needs
 
 returns-2 : tie.Need-returns-2
-returns-2 c = rw (but-last _ _ _ _, named (c .before .before), sym (c .before .is-taken .ensures) ∙ c .if2 .taken)
+returns-2 c =
+    let a = c .before .before .before .before .args in
+    let held : holds (a .t) (a .q .stream) ≡ true = sym (c .before .is-taken .ensures) ∙ c .if2 .taken in
+    rw (but-last _ _ _ _, named (c .before .before), held)
 
 -- and nobody has it
 free : (c : tie.Else2) → (let a = c .before .before .before .before .args in holds (a .t) (a .q .stream) ≡ false)
@@ -69,7 +72,9 @@ count-held-requires : tie.Need-count-held-requires
 count-held-requires c κs = search needs
 
 returns-4 : tie.Need-returns-4
-returns-4 c = rw (passed (c .before .before), sym (c .before .count-held .ensures), le-leb _ _ (c .if4 .taken))
+returns-4 c =
+    let full : leb places (c .before .count-held .result) ≡ true = le-leb _ _ (c .if4 .taken) in
+    rw (passed (c .before .before), sym (c .before .count-held .ensures), full)
 
 returns-5 : tie.Need-returns-5
 returns-5 c = rw (passed (c .before .before), sym (c .before .count-held .ensures), lt-leb _ _ (c .if4 .left))

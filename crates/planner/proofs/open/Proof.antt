@@ -1,5 +1,7 @@
-use mathlib.Core.Path.{sym, _∙_}
+use mathlib.Core.Path.{_≡_, sym, _∙_}
+use mathlib.Core.Bool.{false}
 use borrow.Author.Tests.{not-true, not-false}
+use Rattle.lists.specs.Lists.{within}
 use Rattle.lists.specs.Tests.{within-both}
 use Rattle.model.specs.Requests.{refusal}
 use Rattle.rules.specs.Calls.{openAnswer, opened}
@@ -16,7 +18,8 @@ empty-table-requires c κs = search needs
 returns : tie.Need-returns
 unfolding openAnswer refusal
 returns c =
-    let q = sym (c .before .before .is-within .ensures) ∙ not-true _ (c .before .if1 .taken) in
+    let b = c .before in
+    let q : within 1 1000 (b .before .before .args .units) ≡ false = sym (b .before .is-within .ensures) ∙ not-true _ (b .if1 .taken) in
     (rw q, rw q (c .empty-table .ensures))
 
 mul-empty-table : tie.Need-mul-empty-table
