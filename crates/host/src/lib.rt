@@ -4,8 +4,9 @@
 ghost use mathlib.Core.Bool.{cond};
 ghost use mathlib.Core.Path.{_≡_};
 ghost use lib.Dec.{eqb};
+ghost use lib.ListN.{length, take, drop};
 ghost use Rattle.rules.specs.Calls.{openAnswer, opened, offerAnswer, offered, heldAnswer, withdrawn, beacon};
-ghost use Rattle.rules.specs.Reading.{enquired};
+ghost use Rattle.rules.specs.Reading.{enquired, windowAnswer, windowPart};
 ghost use Rattle.rules.specs.WellFormed.{WellFormed};
 ghost use Rattle.planner.specs.Numbers.{request};
 use model::Entry;
@@ -171,4 +172,34 @@ pub extern "C" fn gelmush_enquire(table: &Table, stream: u32) -> Found
     ensures { λ r. let t = now (table .entry) in ⌜ (r .answer ≡ heldAnswer t stream) × (r .entry ≡ enquired t stream) ⌝ }
 {
     enquire_step(*table, stream)
+}
+
+// ---- a window
+// A part of a plan: so many words, from the first on.
+#[repr(C)]
+pub struct Place {
+    pub first: usize,
+    pub words: usize,
+}
+
+// The part's place in the plan, since no reference goes back to C. As many words precede it as the window of all earlier slots has.
+#[no_mangle]
+pub extern "C" fn gelmush_window(
+    plan: &[u32],
+    count: usize,
+    from: u32,
+    until: u32,
+    answer: &mut u32,
+) -> Place
+    ensures { λ r. let ws = now (plan .entry) in
+        ⌜ (take (r .words) (drop (r .first) ws) ≡ windowPart ws count from until)
+        × (r .first ≡ length (windowPart ws count 0 from))
+        × (r .words ≡ length (windowPart ws count from until))
+        × (now (answer .exit) ≡ windowAnswer ws count from until) ⌝ }
+{
+    let earlier = window::window(plan, count, 0, from, answer);
+    let first = earlier.len();
+    let part = window::window(plan, count, from, until, answer);
+    let words = part.len();
+    Place { first, words }
 }
