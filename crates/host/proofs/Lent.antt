@@ -135,5 +135,5 @@ module _ {M : Type 1} {𝓤 : URA M} {H : Heap 𝓤} {A : Atoms 𝓤} {W : Given
         assigns ! (of-opd ! (load ! (at-spot ! at-i (fld ! at-d (stop !))) (look-in ! 4 (sub ! 1 at-d (whole !)))))
         (at-spot ! at-1 (hop ! (look ! 5 refl) (stop !)))
         (store-in ! 0 (whole !) (LL.lawful T.the-type T′.the-laws 𝓤 H A W .typed h _ is .0)) $
-        assigns ! (of-opd ! (load ! (at-spot ! at-i (fld ! refl (stop !))) (look-in ! 4 (sub ! 0 refl (whole !))))) (at-spot ! at-0 (stop !))
-        (init ! 6 refl typed-x) $ table-closes b o ! tt h is $ s)
+        assigns ! (of-opd ! (load ! (at-spot ! at-i (fld ! refl (stop !))) (look-in ! 4 (sub ! 0 refl (whole !)))))
+        (at-spot ! at-0 (stop !)) (init ! 6 refl typed-x) $ table-closes b o ! tt h is $ s)

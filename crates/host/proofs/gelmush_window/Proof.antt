@@ -1,5 +1,5 @@
 -- The lengths of two parts that the window hands back are the place of the second. Assumes nothing.
-use mathlib.Core.Path.{ap, _∙_}
+use mathlib.Core.Path.{ap}
 use lib.ListN.{length}
 use borrow.Author.Needs.{needs}
 use Rattle.host.specs.Place.{place-part}

@@ -25,6 +25,6 @@ unfolding code.routine tablesOf
 gelmush-withdraw-spec 𝓤 H 𝓜 𝓖 𝓡 =
     entered 𝓤 H (tripleOf 𝓤 H (𝓖 .A) lent.signature (lent.spec 𝓤 H (𝓖 .A) (𝓜 .mem) (𝓡 .run)))
     (tables 𝓤 H 𝓜 𝓡 code.env .C) (tables 𝓤 H 𝓜 𝓡 code.env .Λ) #host·gelmush-withdraw code.function (code.unfolded 𝓤 H 𝓜 𝓡)
-    (loan-meets 𝓤 (λ t n. fact 𝓤 (WellFormed t)) Says H (𝓖 .A) (givenOf 𝓤 H 𝓜 𝓖) (tablesOf 𝓤 H 𝓜 (tables 𝓤 H 𝓜 𝓡 code.env)) #host·withdraw-step
-    (cited 𝓤 H (Value 𝓤 (λ t n. fact 𝓤 (WellFormed t)) Says H (𝓖 .A)) 𝓜 𝓡 code.env #host·withdraw-step step-def.routine code.calls-host·withdraw-step
-    (step-thm.met 𝓤 H 𝓜 𝓖 𝓡)))
+    (loan-meets 𝓤 (λ t n. fact 𝓤 (WellFormed t)) Says H (𝓖 .A) (givenOf 𝓤 H 𝓜 𝓖) (tablesOf 𝓤 H 𝓜 (tables 𝓤 H 𝓜 𝓡 code.env))
+    #host·withdraw-step (cited 𝓤 H (Value 𝓤 (λ t n. fact 𝓤 (WellFormed t)) Says H (𝓖 .A)) 𝓜 𝓡 code.env
+    #host·withdraw-step step-def.routine code.calls-host·withdraw-step (step-thm.met 𝓤 H 𝓜 𝓖 𝓡)))
