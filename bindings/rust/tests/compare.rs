@@ -164,6 +164,12 @@ fn random_calls() {
         let (life, thin) = *random.pick(&[(1, 2), (4, 10), (12, 40), (60, 1_000)]);
         let style = Style { streams: random.word(1, 60), life, thin };
         let mut pair = Pair::open(units).unwrap();
+        if random.chance(10) {
+            // Nearly every place is taken, and hardly any time.
+            (101..=131).for_each(|stream| {
+                pair.offer(&Offer { stream, kind: 1, period: 2, min: 1, max: 1, life: 9 });
+            });
+        }
         for _ in 0..150 {
             pair.call(&mut random, style);
         }
