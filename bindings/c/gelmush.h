@@ -16,6 +16,10 @@
 #include <stddef.h>
 #include <stdint.h>
 
+#ifdef __cplusplus
+extern "C" {
+#endif
+
 #define GELMUSH_TABLE_WORDS 353  /* the slots of an interval, and 11 words for each of 32 places */
 #define GELMUSH_PLAN_WORDS 4096  /* the least memory for a plan: 1,024 records */
 #define GELMUSH_RECORD_WORDS 4   /* stream, job, start, length */
@@ -63,5 +67,9 @@ gelmush_sent gelmush_beacon(gelmush_table *table, uint32_t *plan, size_t words);
 
 /* 40 to 42, in *answer; the part is empty then. Takes no table, and any plan. */
 gelmush_place gelmush_window(const uint32_t *plan, size_t words, size_t count, uint32_t from, uint32_t until, uint32_t *answer);
+
+#ifdef __cplusplus
+}
+#endif
 
 #endif
