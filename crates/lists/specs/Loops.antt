@@ -7,7 +7,7 @@ use Prim.Native.Nat.{ℕ, zero, suc, _+_, _≤_, _<_}
 use native.Mathlib.Nat.{not-suc-le-zero, le-of-suc-le-suc}
 use native.Mathlib.Numerals.{add-one}
 use native.Mathlib.Omega.{arith}
-use lib.ListN.{length, take, drop, set, getD, drop-of-length-le}
+use lib.ListN.{length, take, drop, set, getD, length-set, drop-of-length-le}
 use lib.Seq.{take-suc, take-suc-set, take-all, drop-cons, set-split}
 use Rattle.lists.specs.Lists.{cons-if, one-if, keep, sumOf, anyOf}
 use Rattle.lists.specs.All.{All, stop, and}
@@ -45,18 +45,32 @@ module _ {A : Type 0} (f : A → A) where
   mapped-all (x ∷ xs) zero h = absurd (not-suc-le-zero h)
   mapped-all (x ∷ xs) (suc i) h = ap (λ l. f x ∷ l) (mapped-all xs i (le-of-suc-le-suc h))
 
--- ---- a loop that fills another list by the elements
-module _ {A B : Type 0} (f : A → B) (xs : List A) (ys : List B) (i : ℕ) where
-  -- the first i are filled
-  abbrev pub Copied : Type 0
-  Copied = take i ys ≡ map f (take i xs)
+-- ---- a loop that fills ys by the elements of xs, both n long: the first i are filled
+pub record Copied {A B : Type 0} (f : A → B) (xs : List A) (n : ℕ) (ys : List B) (i : ℕ) : Type 0 where
+  pub inside : i ≤ n
+  pub size : length ys ≡ n
+  pub so-far : take i ys ≡ map f (take i xs)
 
-  pub copied-more : {v : B} (d : A) → i < length xs → i < length ys → Copied → v ≡ f (getD xs i d)
-      → take (i + 1) (set ys i v) ≡ map f (take (i + 1) xs)
-  copied-more {v} d h k e q = rw (add-one i, take-suc-set ys i v k, take-suc xs i d h, map-append, e, q)
+module _ {A B : Type 0} {f : A → B} {xs : List A} {ys : List B} where
+  pub copied-none : Copied f xs (length ys) ys 0
+  copied-none = record { inside = omega arith; size = refl; so-far = refl }
 
-  pub copied-all : length xs ≤ i → length ys ≤ i → Copied → ys ≡ map f xs
-  copied-all h k e = sym (take-all i ys k) ∙ e ∙ ap (map f) (take-all i xs h)
+  module _ {n i : ℕ} (l : length xs ≡ n) (c : Copied f xs n ys i) where
+    pub copied-more : {v : B} (d : A) → i < n → v ≡ f (getD xs i d) → Copied f xs n (set ys i v) (i + 1)
+    copied-more {v} d h q =
+        let hx : i < length xs = omega arith in
+        let hy : i < length ys = omega arith in
+        record {
+          inside = omega arith;
+          size = length-set ys i v ∙ c .size;
+          so-far = rw (add-one i, take-suc-set ys i v hy, take-suc xs i d hx, map-append, c .so-far, q);
+        }
+
+    pub copied-all : n ≤ i → ys ≡ map f xs
+    copied-all h =
+        let hx : length xs ≤ i = omega arith in
+        let hy : length ys ≤ i = omega arith in
+        sym (take-all i ys hy) ∙ c .so-far ∙ ap (map f) (take-all i xs hx)
 
 -- ---- a loop that adds up f of each element
 module _ {A : Type 0} (f : A → ℕ) where

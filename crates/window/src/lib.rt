@@ -69,6 +69,7 @@ fn records<'a>(plan: &'a [u32], first: usize, end: usize) -> &'a [u32]
     &plan[4 * first..4 * end]
 }
 
+// Refused, the part is empty.
 pub fn window<'a>(
     plan: &'a [u32],
     count: usize,

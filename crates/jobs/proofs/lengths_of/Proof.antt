@@ -1,9 +1,6 @@
-use mathlib.Core.Path.{_≡_, refl, _∙_}
-use Prim.Native.Nat.{_-_, _≤_, _<_}
-use native.Mathlib.Omega.{arith}
-use lib.ListN.{length, length-set}
+use Prim.Native.Nat.{_-_}
 use borrow.Author.Needs.{needs}
-use Rattle.lists.specs.Loops.{Copied, copied-more, copied-all}
+use Rattle.lists.specs.Loops.{Copied, copied-none, copied-more, copied-all}
 use Rattle.model.specs.Entries.{freeEntry}
 use Rattle.rules.specs.Slots.{jobLength}
 use Rattle.order.proofs.Known.{row-32}
@@ -11,13 +8,13 @@ use Rattle.jobs.proofs.lengths_of.Statement.{statement}
 use Rattle.jobs.proofs.lengths_of.Tie as tie
 
 abbrev Inv-loop : tie.InvT-loop
-Inv-loop interval es lengths₀ i₀ lengths i = (i ≤ 32) × (length lengths ≡ 32) × Copied (jobLength (interval .0)) es lengths i
+Inv-loop interval es lengths₀ i₀ lengths i = Copied (jobLength (interval .0)) es 32 lengths i
 
 abbrev μ-loop : tie.MeasureT-loop
 μ-loop interval es lengths₀ i₀ lengths i = 32 - i
 
 loop-holds : tie.Need-loop-holds Inv-loop μ-loop
-loop-holds c = (omega arith, refl, refl)
+loop-holds c = copied-none
 
 mul-e : tie.Need-mul-e Inv-loop μ-loop
 mul-e c = search needs
@@ -42,22 +39,14 @@ loop-less c = search needs
 
 loop-again : tie.Need-loop-again Inv-loop μ-loop
 loop-again c =
-    let l = c .before .before .before in
-    let a = l .before .args in
-    let i = l .loop .i in
-    let h : i < length (a .t2) = omega (arith, row-32 (a .t2) (l .before .good .1 .0)) in (
-      omega arith,
-      length-set (l .loop .lengths) i _ ∙ l .loop .inv .1,
-      copied-more (jobLength (a .interval .0)) (a .t2) (l .loop .lengths) i freeEntry h (omega arith) (l .loop .inv .2)
-          (c .job-length .ensures),
-    )
+    let t = c .before .before in
+    let s = t .before .before in
+    copied-more (row-32 (s .args .t2) (s .good .1 .0)) (t .before .loop .inv) freeEntry (t .loop-test .taken) (c .job-length .ensures)
 
 returns : tie.Need-returns Inv-loop μ-loop
 returns c =
-    let l = c .before in
-    let a = l .before .args in
-    let h : length (a .t2) ≤ l .loop .i = omega (arith, row-32 (a .t2) (l .before .good .1 .0)) in
-    copied-all (jobLength (a .interval .0)) (a .t2) (l .loop .lengths) (l .loop .i) h (omega arith) (l .loop .inv .2)
+    let s = c .before .before in
+    copied-all (row-32 (s .args .t2) (s .good .1 .0)) (c .before .loop .inv) (c .loop-test .left)
 
 pub lengths-of-spec : {M : Type 1} → statement M
 lengths-of-spec =

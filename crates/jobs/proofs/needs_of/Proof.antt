@@ -1,10 +1,10 @@
-use mathlib.Core.Path.{_≡_, refl, ap, ap₂, _∙_}
-use Prim.Native.Nat.{_-_, _≤_, _<_}
+use mathlib.Core.Path.{ap, ap₂, _∙_}
+use Prim.Native.Nat.{_-_, _<_}
 use native.Mathlib.Omega.{arith}
-use lib.ListN.{length, getD, length-set}
+use lib.ListN.{length, getD}
 use borrow.Author.Needs.{needs}
 use Rattle.lists.specs.All.{all-at}
-use Rattle.lists.specs.Loops.{Copied, copied-more, copied-all}
+use Rattle.lists.specs.Loops.{Copied, copied-none, copied-more, copied-all}
 use Rattle.model.specs.Entries.{freeEntry}
 use Rattle.order.proofs.Known.{row-32}
 use Rattle.jobs.specs.Needs.{needBy, needsRow, rowBy, Narrow}
@@ -12,13 +12,13 @@ use Rattle.jobs.proofs.needs_of.Statement.{statement}
 use Rattle.jobs.proofs.needs_of.Tie as tie
 
 abbrev Inv-loop : tie.InvT-loop
-Inv-loop t s es needs₀ i₀ needs i = (i ≤ 32) × (length needs ≡ 32) × Copied (rowBy s (t .entries)) es needs i
+Inv-loop t s es needs₀ i₀ needs i = Copied (rowBy s (t .entries)) es 32 needs i
 
 abbrev μ-loop : tie.MeasureT-loop
 μ-loop t s es needs₀ i₀ needs i = 32 - i
 
 loop-holds : tie.Need-loop-holds Inv-loop μ-loop
-loop-holds c = (omega arith, refl, refl)
+loop-holds c = copied-none
 
 mul-e : tie.Need-mul-e Inv-loop μ-loop
 mul-e c = search needs
@@ -26,15 +26,13 @@ mul-e c = search needs
 array-copy-out-e : tie.Need-array-copy-out-e Inv-loop μ-loop
 array-copy-out-e c = search needs
 
--- the place is one of the 32, and its entry's row has room
-inside : (c : tie.In-loop Inv-loop μ-loop) → c .before .loop .i < length (c .before .before .args .t3)
-inside c = (let s = c .before .before in omega (arith, row-32 (s .args .t3) (s .good .1 .1 .0)))
-
+-- the row of the place's entry has room
 narrow : (c : tie.In-loop Inv-loop μ-loop) → (let a = c .before .before .args in
     Narrow (a .s) (a .t .entries) (getD (a .t3) (c .before .loop .i) freeEntry))
 narrow c =
     let s = c .before .before in
-    all-at (Narrow (s .args .s) (s .args .t .entries)) (s .args .t3) freeEntry (s .pre) (c .before .loop .i) (inside c)
+    let h : c .before .loop .i < length (s .args .t3) = omega (arith, row-32 (s .args .t3) (s .good .1 .1 .0)) in
+    all-at (Narrow (s .args .s) (s .args .t .entries)) (s .args .t3) freeEntry (s .pre) (c .before .loop .i) h
 
 grant-requires : tie.Need-grant-requires Inv-loop μ-loop
 grant-requires c κs = search needs
@@ -62,23 +60,17 @@ loop-less c = search needs
 
 loop-again : tie.Need-loop-again Inv-loop μ-loop
 loop-again c =
-    let l = c .before .before .before .before .before .before in
-    let a = l .before .args in
-    let e = getD (a .t3) (l .loop .i) freeEntry in
-    let need = c .before .before .need-of .ensures ∙ ap (λ g. needBy g e) (c .before .before .before .grant .ensures) in (
-      omega arith,
-      length-set (l .loop .needs) (l .loop .i) _ ∙ l .loop .inv .1,
-      copied-more (rowBy (a .s) (a .t .entries)) (a .t3) (l .loop .needs) (l .loop .i) freeEntry
-          (inside (c .before .before .before .before .before)) (omega arith) (l .loop .inv .2)
-          (c .row-of .ensures ∙ ap₂ needsRow (c .before .job-count .ensures) need),
-    )
+    let t = c .before .before .before .before .before in
+    let s = t .before .before in
+    let e = getD (s .args .t3) (t .before .loop .i) freeEntry in
+    let need = c .before .before .need-of .ensures ∙ ap (λ g. needBy g e) (c .before .before .before .grant .ensures) in
+    let row = c .row-of .ensures ∙ ap₂ needsRow (c .before .job-count .ensures) need in
+    copied-more (row-32 (s .args .t3) (s .good .1 .1 .0)) (t .before .loop .inv) freeEntry (t .loop-test .taken) row
 
 returns : tie.Need-returns Inv-loop μ-loop
 returns c =
-    let l = c .before in
-    let a = l .before .args in
-    let h : length (a .t3) ≤ l .loop .i = omega (arith, row-32 (a .t3) (l .before .good .1 .1 .0)) in
-    copied-all (rowBy (a .s) (a .t .entries)) (a .t3) (l .loop .needs) (l .loop .i) h (omega arith) (l .loop .inv .2)
+    let s = c .before .before in
+    copied-all (row-32 (s .args .t3) (s .good .1 .1 .0)) (c .before .loop .inv) (c .loop-test .left)
 
 pub needs-of-spec : {M : Type 1} → statement M
 needs-of-spec =

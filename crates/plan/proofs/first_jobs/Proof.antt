@@ -1,27 +1,24 @@
 -- `plan::first_jobs` meets its contract. The invariant: the first i heads are those of the first i rows. The measure is the number of
 -- rows left. Assumes nothing.
-use mathlib.Core.Path.{_≡_, refl, _∙_}
 use mathlib.Core.List.{[]}
-use Prim.Native.Nat.{_≤_, _<_, _-_}
-use native.Mathlib.Omega.{arith}
-use lib.ListN.{length, length-set}
+use Prim.Native.Nat.{_-_}
 use borrow.Author.Needs.{needs}
 use denote.Array.{Array}
 use denote.Builtin.{u32}
-use Rattle.lists.specs.Loops.{Copied, copied-more, copied-all}
+use Rattle.lists.specs.Loops.{Copied, copied-none, copied-more, copied-all}
 use Rattle.plan.specs.Heads.{firstLeft}
 use Rattle.plan.proofs.Known.{sized}
 use Rattle.plan.proofs.first_jobs.Statement.{statement}
 use Rattle.plan.proofs.first_jobs.Tie as tie
 
 abbrev Inv-loop : tie.InvT-loop
-Inv-loop needs heads₀ i₀ heads i = (i ≤ 32) × ((length heads ≡ 32) × Copied firstLeft needs heads i)
+Inv-loop needs heads₀ i₀ heads i = Copied firstLeft needs 32 heads i
 
 abbrev μ-loop : tie.MeasureT-loop
 μ-loop needs heads₀ i₀ heads i = 32 - i
 
 loop-holds : tie.Need-loop-holds Inv-loop μ-loop
-loop-holds c = (omega arith, (refl, refl))
+loop-holds c = copied-none
 
 mul-row : tie.Need-mul-row Inv-loop μ-loop
 mul-row c = search needs
@@ -46,25 +43,15 @@ loop-less c = search needs
 
 loop-again : tie.Need-loop-again Inv-loop μ-loop
 loop-again c =
-    let l = c .before .before .before in
-    let a = l .before .args in
-    let i = l .loop .i in
-    let hs = l .loop .heads in
-    let rows : i < length (a .t1) = omega (arith, sized (Array u32 16) 32 (a .t1) _ (l .before .good .0)) in (
-      omega arith,
-      (
-        length-set hs i _ ∙ l .loop .inv .1 .0,
-        copied-more firstLeft (a .t1) hs i [] rows (omega arith) (l .loop .inv .1 .1) (c .first-left .ensures),
-      ),
-    )
+    let t = c .before .before in
+    let s = t .before .before in
+    let rows = sized (Array u32 16) 32 (s .args .t1) _ (s .good .0) in
+    copied-more rows (t .before .loop .inv) [] (t .loop-test .taken) (c .first-left .ensures)
 
 returns : tie.Need-returns Inv-loop μ-loop
 returns c =
-    let l = c .before in
-    let a = l .before .args in
-    let i = l .loop .i in
-    let rows : length (a .t1) ≤ i = omega (arith, sized (Array u32 16) 32 (a .t1) _ (l .before .good .0)) in
-    copied-all firstLeft (a .t1) (l .loop .heads) i rows (omega arith) (l .loop .inv .1 .1)
+    let s = c .before .before in
+    copied-all (sized (Array u32 16) 32 (s .args .t1) _ (s .good .0)) (c .before .loop .inv) (c .loop-test .left)
 
 pub first-jobs-spec : {M : Type 1} → statement M
 first-jobs-spec =
