@@ -1,15 +1,18 @@
 # The commands of the README.
-.PHONY: show test reference compared fuzz lists cost
+SHELL := /bin/bash
+.SHELLFLAGS := -o pipefail -c
+.PHONY: show test reference compared bindings fuzz lists cost
 
 # Prove what the program rests on (quickly, where nothing has changed), and run it on a school's day.
 show:
 	@rt check shelf > /dev/null
 	@target/bin/shelf < reference/data/school.in
 
-# The gate: layout, the second implementation's own tests and its stored rows, then every proof from nothing and every must-fail edit.
+# The gate: layout, the second implementation's own tests and its stored rows; then every proof from nothing, every must-fail edit and every
+# program; then the calls from C and from Rust, over what was just proved. The last line is that of rt ci.
 test: reference compared
 	@rt fmt --check
-	@rt ci
+	@log=$$(mktemp) && rt ci | tee $$log && $(MAKE) bindings && tail -n 1 $$log && rm $$log
 
 reference:
 	@cargo test --offline --release --quiet --manifest-path reference/Cargo.toml
@@ -33,6 +36,14 @@ SEED ?=
 fuzz:
 	@rt check shelf > /dev/null
 	@cargo run --offline --release --quiet --manifest-path compare/Cargo.toml -- target/bin/shelf $(ROWS) $(SEED)
+
+# The exported calls: case 1 from C, held to its stored rows, and random calls from Rust, held to the second implementation.
+bindings:
+	@mkdir -p target
+	@rt staticlib host > target/staticlib.log || (cat target/staticlib.log && false)
+	@cc -std=c11 -Wall -Wextra -Werror -O2 -Ibindings/c -o target/case1 bindings/c/case1.c target/staticlib/libhost.a
+	@target/case1 | diff bindings/c/case1.out -
+	@cargo test --offline --release --quiet --manifest-path bindings/rust/Cargo.toml
 
 # Instructions that four beacons on the same 32 requests cost, first at 15 time units, then at 1,000 (valgrind's callgrind).
 cost:

@@ -1,0 +1,205 @@
+// The calls for a host that lends its table, and for C. Document 01, "Reading, lending, printing": the host lends its table and finds
+// it there as the call leaves it. A lent form is thin: it copies the table, makes the call by value, and stores the table after it.
+// An answer is the document's number. Each contract is an equation over what the host had at entry and has at exit.
+ghost use mathlib.Core.Bool.{cond};
+ghost use mathlib.Core.Path.{_≡_};
+ghost use lib.Dec.{eqb};
+ghost use lib.ListN.{length, take, drop};
+ghost use Rattle.rules.specs.Calls.{openAnswer, opened, offerAnswer, offered, heldAnswer, withdrawn, beacon};
+ghost use Rattle.rules.specs.Reading.{enquired, windowAnswer, windowPart};
+ghost use Rattle.rules.specs.WellFormed.{WellFormed};
+ghost use Rattle.planner.specs.Numbers.{request};
+use model::Entry;
+use model::Table;
+
+// ---- the calls by value, with the answer's number
+pub struct Answered {
+    pub answer: u32,
+    pub table: Table,
+}
+
+// What a beacon sends besides the plan: its answer and its record count.
+#[repr(C)]
+pub struct Sent {
+    pub answer: u32,
+    pub count: usize,
+}
+
+pub struct Sending {
+    pub sent: Sent,
+    pub table: Table,
+}
+
+#[repr(C)]
+pub struct Found {
+    pub answer: u32,
+    pub entry: Entry,
+}
+
+fn beacon_step(t: Table, plan: &mut [u32]) -> Sending
+    requires { ⌜ WellFormed t ⌝ }
+    ensures { λ r. let b = beacon t (now (plan .entry)) in
+        ⌜ (r .sent .answer ≡ b .answer) × (r .sent .count ≡ b .count) × (r .table ≡ b .table) × (now (plan .exit) ≡ b .words) ⌝ }
+{
+    let b = planner::beacon(t, plan);
+    let answer = b.answer;
+    let sent = Sent {
+        answer: planner::beacon_number(answer),
+        count: b.count,
+    };
+    let table = b.table;
+    Sending { sent, table }
+}
+
+fn offer_step(
+    t: Table,
+    stream: u32,
+    kind: u32,
+    period: u32,
+    min: u32,
+    max: u32,
+    life: u32,
+) -> Answered
+    requires { ⌜ WellFormed t ⌝ }
+    ensures { λ r. let q = request stream kind period min max life in ⌜ (r .answer ≡ offerAnswer t q) × (r .table ≡ offered t q) ⌝ }
+{
+    let o = planner::offer(t, stream, kind, period, min, max, life);
+    let answer = o.answer;
+    let table = o.table;
+    Answered {
+        answer: planner::offer_number(answer),
+        table,
+    }
+}
+
+fn withdraw_step(t: Table, stream: u32) -> Answered
+    requires { ⌜ WellFormed t ⌝ }
+    ensures { λ r. ⌜ (r .answer ≡ heldAnswer t stream) × (r .table ≡ withdrawn t stream) ⌝ }
+{
+    let w = planner::withdraw(t, stream);
+    let answer = w.answer;
+    let table = w.table;
+    Answered {
+        answer: planner::held_number(answer),
+        table,
+    }
+}
+
+// Refused, the table is the one that was there.
+fn open_step(t: Table, units: u32) -> Answered
+    ensures { λ r. ⌜ (r .answer ≡ openAnswer units) × (r .table ≡ cond (eqb (openAnswer units) 0) (opened units) t) ⌝ }
+{
+    let o = planner::open(units);
+    let answer = o.answer;
+    let number = planner::open_number(answer);
+    let mut table = t;
+    if number == 0 {
+        table = o.table;
+    }
+    Answered {
+        answer: number,
+        table,
+    }
+}
+
+fn enquire_step(t: Table, stream: u32) -> Found
+    requires { ⌜ WellFormed t ⌝ }
+    ensures { λ r. ⌜ (r .answer ≡ heldAnswer t stream) × (r .entry ≡ enquired t stream) ⌝ }
+{
+    let q = planner::enquire(t, stream);
+    let answer = q.answer;
+    let entry = q.entry;
+    Found {
+        answer: planner::held_number(answer),
+        entry,
+    }
+}
+
+// ---- the calls on a lent table
+#[no_mangle]
+pub extern "C" fn gelmush_beacon(table: &mut Table, plan: &mut [u32]) -> Sent
+    requires { ⌜ WellFormed (now table) ⌝ }
+    ensures { λ r. let b = beacon (now (table .entry)) (now (plan .entry)) in
+        ⌜ (r .answer ≡ b .answer) × (r .count ≡ b .count) × (now (table .exit) ≡ b .table) × (now (plan .exit) ≡ b .words) ⌝ }
+{
+    let b = beacon_step(*table, plan);
+    *table = b.table;
+    b.sent
+}
+
+#[no_mangle]
+pub extern "C" fn gelmush_offer(
+    table: &mut Table,
+    stream: u32,
+    kind: u32,
+    period: u32,
+    min: u32,
+    max: u32,
+    life: u32,
+) -> u32
+    requires { ⌜ WellFormed (now table) ⌝ }
+    ensures { λ r. let t = now (table .entry) in let q = request stream kind period min max life in
+        ⌜ (r ≡ offerAnswer t q) × (now (table .exit) ≡ offered t q) ⌝ }
+{
+    let step = offer_step(*table, stream, kind, period, min, max, life);
+    *table = step.table;
+    step.answer
+}
+
+#[no_mangle]
+pub extern "C" fn gelmush_withdraw(table: &mut Table, stream: u32) -> u32
+    requires { ⌜ WellFormed (now table) ⌝ }
+    ensures { λ r. let t = now (table .entry) in ⌜ (r ≡ heldAnswer t stream) × (now (table .exit) ≡ withdrawn t stream) ⌝ }
+{
+    let step = withdraw_step(*table, stream);
+    *table = step.table;
+    step.answer
+}
+
+// Asks nothing of what lies in the table's place. Refused, it lies there still.
+#[no_mangle]
+pub extern "C" fn gelmush_open(table: &mut Table, units: u32) -> u32
+    ensures { λ r. let a = openAnswer units in ⌜ (r ≡ a) × (now (table .exit) ≡ cond (eqb a 0) (opened units) (now (table .entry))) ⌝ }
+{
+    let step = open_step(*table, units);
+    *table = step.table;
+    step.answer
+}
+
+#[no_mangle]
+pub extern "C" fn gelmush_enquire(table: &Table, stream: u32) -> Found
+    requires { ⌜ WellFormed (now table) ⌝ }
+    ensures { λ r. let t = now (table .entry) in ⌜ (r .answer ≡ heldAnswer t stream) × (r .entry ≡ enquired t stream) ⌝ }
+{
+    enquire_step(*table, stream)
+}
+
+// ---- a window
+// A part of a plan: so many words, from the first on.
+#[repr(C)]
+pub struct Place {
+    pub first: usize,
+    pub words: usize,
+}
+
+// The part's place in the plan, since no reference goes back to C. As many words precede it as the window of all earlier slots has.
+#[no_mangle]
+pub extern "C" fn gelmush_window(
+    plan: &[u32],
+    count: usize,
+    from: u32,
+    until: u32,
+    answer: &mut u32,
+) -> Place
+    ensures { λ r. let ws = now (plan .entry) in
+        ⌜ (take (r .words) (drop (r .first) ws) ≡ windowPart ws count from until)
+        × (r .first ≡ length (windowPart ws count 0 from))
+        × (r .words ≡ length (windowPart ws count from until))
+        × (now (answer .exit) ≡ windowAnswer ws count from until) ⌝ }
+{
+    let earlier = window::window(plan, count, 0, from, answer);
+    let first = earlier.len();
+    let part = window::window(plan, count, from, until, answer);
+    let words = part.len();
+    Place { first, words }
+}
