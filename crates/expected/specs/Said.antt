@@ -133,17 +133,17 @@ module _ {s : State} {l : List ℕ} (p : Told s (record { ask = Tick; answer = 0
   pub plan-told : (rows (wordsOf runs) ≡ rows l) × (beacon (s .table) (s .words) .table ≡ advanced (s .table))
   plan-told = (ap rows words-told, ap (λ (b : Beacon). b .table) (planned (s .table) (s .words) (p .answer)))
 
-  -- a window over that plan, whatever words stand after it
+  -- a window over words that are that plan's and then others
   pub window-told : {from until n : ℕ} {part : List ℕ}
-      → Told (reply s Tick .next) (record { ask = Window from until; answer = n; shown = part }) → (ws : List ℕ)
-      → let plan = wordsOf runs ++ ws in
-      (windowAnswer plan (length (rows l)) from until ≡ n) × (windowPart plan (length (rows l)) from until ≡ part)
-  window-told {from} {until} w ws =
+      → Told (reply s Tick .next) (record { ask = Window from until; answer = n; shown = part })
+      → (ws : List ℕ) {plan : List ℕ} → plan ≡ wordsOf runs ++ ws
+      → (windowAnswer plan (length (rows l)) from until ≡ n) × (windowPart plan (length (rows l)) from until ≡ part)
+  window-told {from} {until} w ws e =
       let b = planned (s .table) (s .words) (p .answer) in
       let old = drop (4 * length runs) (s .words) in
       let n = row-count runs (ap rows words-told) in (
-        rw (n, answer-alone runs ws from until, ← answer-alone runs old from until) (rw b at (w .answer)),
-        rw (n, part-alone runs ws from until, ← part-alone runs old from until) (rw b at (w .shown)),
+        rw (e, n, answer-alone runs ws from until, ← answer-alone runs old from until) (rw b at (w .answer)),
+        rw (e, n, part-alone runs ws from until, ← part-alone runs old from until) (rw b at (w .shown)),
       )
 
 -- a table that holds nothing has an empty plan

@@ -17,7 +17,7 @@ slice-aggregate-expect-window c = search needs
 expect-window-requires : tie.Need-expect-window-requires
 expect-window-requires c κs =
     let b = c .before .before .before .before in
-    rw (b .beacon-of-case-1 .ensures .1 .1) (window-told (line (at9 + 4)) (line (at9 + 5)) _)
+    window-told (line (at9 + 4)) (line (at9 + 5)) _ (b .beacon-of-case-1 .ensures .1 .1)
 
 slice-aggregate-expect-window-2 : tie.Need-slice-aggregate-expect-window-2
 slice-aggregate-expect-window-2 c = search needs
@@ -25,7 +25,7 @@ slice-aggregate-expect-window-2 c = search needs
 expect-window-requires-2 : tie.Need-expect-window-requires-2
 expect-window-requires-2 c κs =
     let b = c .before .before .before .before .before .before .before in
-    rw (b .beacon-of-case-1 .ensures .1 .1) (window-told (line (at9 + 4)) (line (at9 + 6)) _)
+    window-told (line (at9 + 4)) (line (at9 + 6)) _ (b .beacon-of-case-1 .ensures .1 .1)
 
 slice-aggregate-expect-window-3 : tie.Need-slice-aggregate-expect-window-3
 slice-aggregate-expect-window-3 c = search needs
@@ -33,7 +33,7 @@ slice-aggregate-expect-window-3 c = search needs
 expect-window-requires-3 : tie.Need-expect-window-requires-3
 expect-window-requires-3 c κs =
     let b = c .before .before .before .before .before .before .before .before .before .before in
-    rw (b .beacon-of-case-1 .ensures .1 .1) (window-told (line (at9 + 4)) (line (at9 + 7)) _)
+    window-told (line (at9 + 4)) (line (at9 + 7)) _ (b .beacon-of-case-1 .ensures .1 .1)
 
 same-length : tie.Need-same-length
 same-length c = search needs
