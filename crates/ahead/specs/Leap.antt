@@ -115,7 +115,7 @@ module _ (n : ℕ) (t : Table) where
       go [] = omega arith
       go (e ∷ es) = omega (arith, go es)
 
-skipped-none : (t : Table) → skipped 0 t ≡ t
+pub skipped-none : (t : Table) → skipped 0 t ≡ t
 skipped-none t = ap (λ ps. record { interval = t .interval; entries = ps })
     (map-ext (on-by 0 t) (λ e. e) (all-of (t .entries) one) ∙ map-id (t .entries))
   where
