@@ -41,7 +41,8 @@ misses-requires : tie.Need-misses-requires Inv-loop μ-loop
 misses-requires c κs =
     let h = c .before .before .before .before in
     let l = h .before .before .loop in
-    there (l .now) (h .before .any-held .ensures) (h .if1 .taken) (l .inv .0) (c .leapt .ensures) (c .before .capacity .ensures)
+    let found = h .before .any-held .ensures in
+    search (needs, there (l .now) found (h .if1 .taken) (l .inv .0) (c .leapt .ensures) (c .before .capacity .ensures))
 
 returns-2 : tie.Need-returns-2 Inv-loop μ-loop
 returns-2 c =
@@ -57,7 +58,8 @@ advance-without-extras-requires c κs =
     let a = c .before .before in
     let h = a .before .before .before .before in
     let l = h .before .before .loop in
-    there (l .now) (h .before .any-held .ensures) (h .if1 .taken) (l .inv .0) (a .leapt .ensures) (a .before .capacity .ensures)
+    let found = h .before .any-held .ensures in
+    search (needs, there (l .now) found (h .if1 .taken) (l .inv .0) (a .leapt .ensures) (a .before .capacity .ensures))
 
 loop-less : tie.Need-loop-less Inv-loop μ-loop
 loop-less c =
