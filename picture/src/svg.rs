@@ -5,7 +5,6 @@
 
 use std::fmt::{self, Display, Write};
 
-use crate::answers::Record;
 use crate::plan::{Idle, Kind, Lane, Plan};
 use crate::words;
 
@@ -19,7 +18,7 @@ const LANE_HEIGHT: u64 = 20;
 const INSET: u64 = 3;
 const BELOW_LANES: u64 = 86;
 const STREAM_COLUMN: u64 = 52;
-const PERIOD_COLUMN: u64 = 104;
+const PERIOD_COLUMN: u64 = 126;
 
 /// The fills by kind, from light to dark, and that of jobs whose kind is not known.
 const FRACTION: &str = "#fff2cc";
@@ -35,7 +34,7 @@ struct Px(u64);
 /// The narrowest bar: a record of one slot is seen, whatever the scale.
 const NARROWEST: Px = Px(60);
 /// The room of a digit in a bar, and that at both sides of a number.
-const DIGIT: u64 = 600;
+const DIGIT: u64 = 640;
 const ASIDE: u64 = 400;
 
 impl Display for Px {
@@ -161,7 +160,12 @@ fn axis(page: &mut Page, scale: &Scale, bottom: u64) {
         page.line([x, px(bottom), x, px(bottom + 5)], black);
         page.text(x, px(bottom + 16), "middle", words::grouped(tick));
     }
-    page.text(Px((left.0 + right.0) / 2), px(bottom + 31), "middle", "slot (1 microsecond)");
+    page.text(
+        Px((left.0 + right.0) / 2),
+        px(bottom + 31),
+        "middle",
+        "slot of the interval, 1 microsecond each",
+    );
 }
 
 /// A lane's name and the line under it.
@@ -185,7 +189,7 @@ fn stream_lane(page: &mut Page, scale: &Scale, lane: &Lane, top: u64) {
         let what = format!("stream {}, job {}", record.stream, record.job);
         bar(page, scale, [record.start, record.end()], top, fill, &what);
     }
-    job_numbers(page, scale, &lane.records, top);
+    job_numbers(page, scale, lane, top);
 }
 
 fn fill_of(kind: Option<Kind>) -> &'static str {
@@ -205,7 +209,8 @@ fn period_ticks(page: &mut Page, scale: &Scale, parts: u64, top: u64) {
     }
 }
 
-const PERIOD_TICK: &str = "stroke=\"#000000\" stroke-width=\"1.2\"";
+/// Dashed, since a narrow bar is as thin as a line.
+const PERIOD_TICK: &str = "stroke=\"#000000\" stroke-width=\"1\" stroke-dasharray=\"2.5 2.5\"";
 
 /// The bar of a run of slots. Its own title says in words what it is.
 fn bar(page: &mut Page, scale: &Scale, [start, end]: [u64; 2], top: u64, fill: &str, what: &str) {
@@ -219,18 +224,26 @@ fn bar(page: &mut Page, scale: &Scale, [start, end]: [u64; 2], top: u64, fill: &
 }
 
 /// The number of each job in its bar or, where that is too narrow, beside it; where neither has room, none.
-fn job_numbers(page: &mut Page, scale: &Scale, records: &[Record], top: u64) {
-    for (i, record) in records.iter().enumerate() {
-        let (start, end) = (scale.x(record.start), scale.x(record.end()));
-        let next = scale.x(records.get(i + 1).map_or(scale.end, |next| next.start));
+fn job_numbers(page: &mut Page, scale: &Scale, lane: &Lane, top: u64) {
+    for (i, record) in lane.records.iter().enumerate() {
+        let (start, end) = (scale.x(record.start), scale.x(record.end()).0);
+        let side = Px(end.max(start.0 + NARROWEST.0) + ASIDE / 2);
         let digits = record.job.to_string().len() as u64;
-        let room = digits * DIGIT + ASIDE;
         let baseline = Px(top * 100 + 1_370);
-        if end.0 - start.0 >= room {
-            page.text(Px((start.0 + end.0) / 2), baseline, "middle", record.job);
-        } else if next.0 - end.0 >= room {
-            page.text(Px(end.0.max(start.0 + NARROWEST.0) + 200), baseline, "start", record.job);
+        if end - start.0 >= digits * DIGIT + ASIDE {
+            page.text(Px((start.0 + end) / 2), baseline, "middle", record.job);
+        } else if side.0 + digits * DIGIT <= scale.x(free_until(lane, i, scale.end)).0 {
+            page.text(side, baseline, "start", record.job);
         }
+    }
+}
+
+/// Where the free room after a record ends: at the lane's next record or tick.
+fn free_until(lane: &Lane, i: usize, end: u64) -> u64 {
+    let next = lane.records.get(i + 1).map_or(end, |next| next.start);
+    match lane.request.as_ref().map(|request| request.kind) {
+        Some(Kind::Fraction(parts)) => next.min(lane.records[i].end().next_multiple_of(end / parts)),
+        _ => next,
     }
 }
 
@@ -271,4 +284,95 @@ fn legend(page: &mut Page, plan: &Plan, top: u64) {
 fn legend_text(page: &mut Page, x: u64, top: u64, meaning: &str) -> u64 {
     page.text(px(x + 21), px(top + 9), "start", meaning);
     x + 21 + meaning.len() as u64 * 5 + 16
+}
+
+#[cfg(test)]
+mod tests {
+    use super::*;
+    use crate::answers::Record;
+    use crate::plan::{Known, Request, Table};
+
+    /// The picture of records of stream, job, start and length in 1,024 slots.
+    fn picture(numbers: &[[u64; 4]], held: Option<(u64, Kind)>) -> String {
+        let record = |&[stream, job, start, length]: &[u64; 4]| Record { row: 2, stream, job, start, length };
+        let records: Vec<Record> = numbers.iter().map(record).collect();
+        let known = match held {
+            Some((stream, kind)) => Known::Table(Table {
+                interval: 1_024,
+                held: [(stream, Request { kind, life_left: 2 })].into(),
+            }),
+            None => Known::Length(1_024),
+        };
+        drawn(&Plan::new(1, &records, known).unwrap())
+    }
+
+    fn count(text: &str, part: &str) -> usize {
+        text.matches(part).count()
+    }
+
+    #[test]
+    fn ticks_are_eighths_and_never_crowd_the_end() {
+        assert_eq!(ticks(1_024), [0, 128, 256, 384, 512, 640, 768, 896, 1_024]);
+        assert_eq!(ticks(1_024_000).len(), 9);
+        assert_eq!(ticks(1), [0, 1]);
+        assert_eq!(ticks(9), [0, 2, 4, 6, 8, 9]);
+        assert_eq!(ticks(26), [0, 4, 8, 12, 16, 20, 24, 26]);
+        assert_eq!(ticks(17), [0, 3, 6, 9, 12, 15, 17]);
+    }
+
+    #[test]
+    fn slots_lie_between_the_edges() {
+        let scale = Scale { left: 136, end: 1_024 };
+        let places: Vec<String> = [0, 1, 512, 1_024].iter().map(|&slot| scale.x(slot).to_string()).collect();
+        assert_eq!(places, ["136.00", "136.50", "393.00", "650.00"]);
+    }
+
+    #[test]
+    fn bars_say_their_slots() {
+        let text = picture(&[[5, 3, 0, 100], [5, 4, 100, 1]], None);
+        assert_eq!(count(&text, "<title>stream 5, job 3, slots 0 to 99</title>"), 1);
+        assert_eq!(count(&text, "<title>stream 5, job 4, slots 100 to 100</title>"), 1);
+        assert_eq!(count(&text, "<title>idle, slots 101 to 1023</title>"), 1);
+    }
+
+    #[test]
+    fn a_number_stands_in_its_bar_or_beside_it() {
+        assert_eq!(count(&picture(&[[5, 3, 0, 100]], None), "text-anchor=\"middle\">3<"), 1);
+        assert_eq!(count(&picture(&[[5, 3, 0, 1]], None), "text-anchor=\"start\">3<"), 1);
+        assert_eq!(count(&picture(&[[5, 3, 0, 1], [5, 4, 1, 100]], None), ">3<"), 0);
+        // The last slot before a period's bound: beside it is the next period.
+        assert_eq!(count(&picture(&[[5, 1, 511, 1]], Some((5, Kind::Fraction(2)))), ">1<"), 0);
+        assert_eq!(count(&picture(&[[5, 1, 512, 1]], Some((5, Kind::Fraction(2)))), ">1<"), 1);
+    }
+
+    #[test]
+    fn only_a_fraction_stream_has_period_ticks() {
+        let ticks = |kind| count(&picture(&[[5, 0, 0, 1]], Some((5, kind))), "stroke-dasharray");
+        // One of them is the legend's.
+        assert_eq!(ticks(Kind::Fraction(4)), 5 + 1);
+        assert_eq!(ticks(Kind::Whole(4)), 1);
+        assert_eq!(ticks(Kind::Transfer), 1);
+        assert_eq!(count(&picture(&[[5, 0, 0, 1]], None), "stroke-dasharray"), 0);
+    }
+
+    #[test]
+    fn each_kind_has_its_fill() {
+        let fills = |kind, fill| count(&picture(&[[5, 0, 0, 1]], Some((5, kind))), fill);
+        for (kind, fill) in
+            [(Kind::Fraction(2), FRACTION), (Kind::Whole(2), WHOLE), (Kind::Transfer, TRANSFER)]
+        {
+            assert_eq!(fills(kind, fill), 2);
+        }
+        assert_eq!(count(&picture(&[[5, 0, 0, 1]], None), UNKNOWN), 2);
+    }
+
+    #[test]
+    fn the_page_grows_by_a_lane_for_each_stream() {
+        let height = |streams: u64| {
+            let records: Vec<[u64; 4]> = (1..=streams).map(|stream| [stream, 0, stream, 1]).collect();
+            picture(&records, None)
+                .contains(&format!("height=\"{}\"", TOP + (streams + 1) * LANE_HEIGHT + BELOW_LANES))
+        };
+        assert!(height(1) && height(2) && height(32));
+    }
 }
