@@ -25,7 +25,8 @@ fn any_held(t: Table) -> bool
     false
 }
 
-// Stops at the first miss, when an even share is enough for what is left, and when all lives are used up.
+// Where an even share is enough for what is left, no more intervals are looked at.
+// Stops at the first miss, and when all lives are used up.
 pub fn fits_ahead(t: Table) -> bool
     requires { ⌜ Tidy t ⌝ }
     ensures { λ r. ⌜ r ≡ fitsAhead (t .interval .0) (heldOf t) ⌝ }
