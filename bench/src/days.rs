@@ -19,26 +19,53 @@ enum Call {
     Beacon,
 }
 
-/// A day's calls, decided by its random numbers.
+/// A day's calls.
 #[derive(Clone, Debug)]
-pub struct Day {
+struct Day {
     units: u32,
     calls: Vec<Call>,
 }
 
-/// How many calls a day has; short lives, so that many periods end within it.
-const CALLS: usize = 60;
-const STYLE: Style = Style { streams: 16, life: 6, thin: 4 };
+/// What days are made of.
+#[derive(Clone, Copy, Debug)]
+pub struct Mix {
+    /// Its name in the table.
+    pub name: &'static str,
+    /// Whole streams only, of up to whole intervals; else all kinds.
+    whole: bool,
+    /// Withdrawals and beacons among a hundred calls; the others are offers.
+    withdrawals: u64,
+    beacons: u64,
+}
 
-impl Day {
-    /// Offers in range, beacons and, if they are asked for, withdrawals.
-    pub fn random(random: &mut Random, withdrawals: bool) -> Day {
+/// Calls of a day. Lives are short, so that many periods end within it.
+const CALLS: usize = 60;
+const STREAMS: u32 = 16;
+
+/// The days compared. Case 5 of document 01 is one of the third sort: long periods of much time, and departures in the middle.
+pub const MIXES: [Mix; 3] = [
+    Mix { name: "all kinds, nobody withdraws", whole: false, withdrawals: 0, beacons: 40 },
+    Mix { name: "all kinds, with withdrawals", whole: false, withdrawals: 15, beacons: 30 },
+    Mix { name: "whole streams, with withdrawals", whole: true, withdrawals: 15, beacons: 30 },
+];
+
+impl Mix {
+    fn offer(&self, random: &mut Random, interval: u64) -> Offer {
+        let style = Style { streams: STREAMS, life: 6, thin: if self.whole { 2 } else { 4 } };
+        loop {
+            let offer = random_offer(random, interval, style);
+            if !self.whole || offer.kind == 2 {
+                return offer;
+            }
+        }
+    }
+
+    fn day(&self, random: &mut Random) -> Day {
         let units = *random.pick(&[1, 1, 2, 3]);
-        let interval = 1_024 * u64::from(units);
-        let call = |random: &mut Random| match random.between(0, 9) {
-            0..=5 => Call::Offer(random_offer(random, interval, STYLE)),
-            6 if withdrawals => Call::Withdraw(random.word(1, STYLE.streams)),
-            _ => Call::Beacon,
+        let call = |random: &mut Random| match random.between(0, 99) {
+            n if n < self.withdrawals => Call::Withdraw(random.word(1, STREAMS)),
+            n if n < self.withdrawals + self.beacons => Call::Beacon,
+            _ => Call::Offer(self.offer(random, 1_024 * u64::from(units))),
         };
         Day { units, calls: (0..CALLS).map(|_| call(random)).collect() }
     }
@@ -105,22 +132,22 @@ fn decide(planner: &mut impl Planner, ledger: &mut Ledger, offer: &Offer, counts
     }
 }
 
-fn counts_of<P: Planner>(days: &[Day]) -> Counts {
+fn counts_of<P: Planner>(days: &[Day]) -> (&'static str, Counts) {
     let mut counts = Counts::default();
     days.iter().for_each(|day| run::<P>(day, &mut counts));
-    counts
+    (P::NAME, counts)
 }
 
 /// The counts of each planner on the same days.
-pub fn compare(seed: u64, days: usize, withdrawals: bool) -> Vec<(&'static str, Counts)> {
+pub fn compare(seed: u64, days: usize, mix: Mix) -> Vec<(&'static str, Counts)> {
     let mut random = Random::new(seed);
-    let days: Vec<Day> = (0..days).map(|_| Day::random(&mut random, withdrawals)).collect();
+    let days: Vec<Day> = (0..days).map(|_| mix.day(&mut random)).collect();
     vec![
         #[cfg(feature = "ours")]
-        ("ours", counts_of::<Ours>(&days)),
-        ("second", counts_of::<Second>(&days)),
-        ("EACIAR", counts_of::<Eaciar>(&days)),
-        ("sum alone", counts_of::<SumAlone>(&days)),
+        counts_of::<Ours>(&days),
+        counts_of::<Second>(&days),
+        counts_of::<Eaciar>(&days),
+        counts_of::<SumAlone>(&days),
     ]
 }
 
@@ -131,14 +158,17 @@ mod tests {
     /// The planner that looks ahead makes neither mistake; the other two show that the test can see both.
     #[test]
     fn mistakes_are_seen() {
-        let counts = |name| {
-            let found = compare(1, 60, true).into_iter().find(|(planner, _)| *planner == name);
+        let counts = |name, mix| {
+            let found = compare(1, 60, mix).into_iter().find(|(planner, _)| *planner == name);
             found.expect("a planner's name").1
         };
-        let second = counts("second");
-        assert_eq!((second.refused_servable, second.accepted_unservable, second.short), (0, 0, 0));
-        assert!(second.accepted > 500 && second.accepted < second.decided);
-        assert!(counts("EACIAR").refused_servable > 0);
-        assert!(counts("sum alone").short > 0);
+        for mix in MIXES {
+            let second = counts("second", mix);
+            assert_eq!((second.refused_servable, second.accepted_unservable, second.short), (0, 0, 0));
+            assert!(second.accepted > 200 && second.accepted < second.decided);
+        }
+        assert!(counts("EACIAR", MIXES[0]).refused_servable > 0);
+        let sum = counts("sum alone", MIXES[2]);
+        assert!(sum.accepted_unservable > 0 && sum.short > 0);
     }
 }

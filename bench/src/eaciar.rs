@@ -290,6 +290,8 @@ fn by_deadline(rows: &[Row]) -> Vec<usize> {
 }
 
 impl Planner for Eaciar {
+    const NAME: &'static str = "EACIAR";
+
     fn open(units: u32) -> Eaciar {
         Eaciar::with_interval(1_024 * u64::from(units))
     }

@@ -5,8 +5,12 @@ use reference::request::{Entry, Offer, Request};
 use reference::steps::{self, Division};
 use reference::{Slots, Table, answer, plan};
 
-/// What all planners do. Answers are document 01's numbers.
+/// The planners' calls. Answers are document 01's numbers.
 pub trait Planner: Clone {
+    /// Its name in tables.
+    const NAME: &'static str;
+    /// Whether it answers enquiries and cuts windows.
+    const READS: bool = false;
     /// Opens a table; the time units are in range.
     fn open(units: u32) -> Self;
     /// Offers a request.
@@ -15,14 +19,14 @@ pub trait Planner: Clone {
     fn withdraw(&mut self, stream: u32) -> u32;
     /// Writes the plan of the coming interval; gives the number of records.
     fn beacon(&mut self, plan: &mut [u32]) -> usize;
-}
-
-/// What the published procedure has no part for.
-pub trait Reader: Planner {
-    /// Life left of a held stream, 0 if it is not held: enough to keep the entry from being left out of the compiled call.
-    fn enquire(&self, stream: u32) -> u32;
+    /// Life left of a held stream, 0 if it is not held.
+    fn enquire(&self, _stream: u32) -> u32 {
+        0
+    }
     /// Words of a part of a plan.
-    fn window(plan: &[u32], count: usize, from: u32, until: u32) -> usize;
+    fn window(_plan: &[u32], _count: usize, _from: u32, _until: u32) -> usize {
+        0
+    }
 }
 
 /// The second implementation.
@@ -30,6 +34,9 @@ pub trait Reader: Planner {
 pub struct Second(Table);
 
 impl Planner for Second {
+    const NAME: &'static str = "second";
+    const READS: bool = true;
+
     fn open(units: u32) -> Second {
         Second(Table::open(units).expect("time units in range"))
     }
@@ -45,10 +52,9 @@ impl Planner for Second {
     fn beacon(&mut self, plan: &mut [u32]) -> usize {
         self.0.beacon(plan).count
     }
-}
 
-impl Reader for Second {
     fn enquire(&self, stream: u32) -> u32 {
+        // The whole entry has to be there, not only the word that is read.
         std::hint::black_box(self.0.enquire(stream)).entry.life_left
     }
 
@@ -70,6 +76,9 @@ fn number<T>(outcome: Result<T, gelmush::Refused>) -> u32 {
 
 #[cfg(feature = "ours")]
 impl Planner for Ours {
+    const NAME: &'static str = "ours";
+    const READS: bool = true;
+
     fn open(units: u32) -> Ours {
         Ours(gelmush::Shelf::open(units).expect("time units in range"))
     }
@@ -86,10 +95,7 @@ impl Planner for Ours {
     fn beacon(&mut self, plan: &mut [u32]) -> usize {
         self.0.beacon(plan).unwrap_or(0)
     }
-}
 
-#[cfg(feature = "ours")]
-impl Reader for Ours {
     fn enquire(&self, stream: u32) -> u32 {
         std::hint::black_box(self.0.enquire(stream)).map_or(0, |entry| entry.life_left)
     }
@@ -119,6 +125,8 @@ impl SumAlone {
 }
 
 impl Planner for SumAlone {
+    const NAME: &'static str = "sum alone";
+
     fn open(units: u32) -> SumAlone {
         SumAlone { interval: Slots(1_024 * u64::from(units)), held: Vec::new() }
     }
