@@ -1,15 +1,15 @@
 # The commands of the README.
 SHELL := /bin/bash
 .SHELLFLAGS := -o pipefail -c
-.PHONY: show test reference compared bindings fuzz lists cost
+.PHONY: show test reference compared bindings fuzz lists cost picture
 
 # Prove what the program rests on (quickly, where nothing has changed), and run it on a school's day.
 show:
 	@rt check shelf > /dev/null
 	@target/bin/shelf < reference/data/school.in
 
-# The gate: layout, the second implementation's own tests and its stored rows; then every proof from nothing, every must-fail edit and every
-# program; then the calls from C and from Rust, over what was just proved. The last line is that of rt ci.
+# The gate: layout, the second implementation's own tests and its stored rows, the stored pictures; then every proof from nothing, every
+# must-fail edit and every program; then the calls from C and from Rust, over what was just proved. The last line is that of rt ci.
 test: reference compared
 	@rt fmt --check
 	@log=$$(mktemp) && rt ci | tee $$log && $(MAKE) bindings && tail -n 1 $$log && rm $$log
@@ -17,6 +17,7 @@ test: reference compared
 reference:
 	@cargo test --offline --release --quiet --manifest-path reference/Cargo.toml
 	@cargo test --offline --release --quiet --manifest-path compare/Cargo.toml
+	@cargo test --offline --release --quiet --manifest-path picture/Cargo.toml
 
 # The rows that rt ci holds the program to are those of the second implementation, on its stored lists.
 compared: reference
@@ -29,6 +30,13 @@ lists:
 	@cargo build --offline --release --quiet --manifest-path reference/Cargo.toml
 	@cat reference/data/*.in > crates/shelf/stdin
 	@reference/target/release/shelf-reference < crates/shelf/stdin > crates/shelf/stdout
+
+# Draws the README's picture: the first plan of the school's day, from its stored rows.
+picture:
+	@cargo build --offline --release --quiet --manifest-path picture/Cargo.toml
+	@mkdir -p target
+	@picture/target/release/plan-picture --calls reference/data/school.in < reference/data/school.out > target/plan.svg
+	@mv target/plan.svg docs/plan.svg
 
 # Compares the program with the second implementation on fresh rows, legal and damaged, at once and in packets of 1 to 4,096 bytes.
 ROWS ?= 200000

@@ -3,4 +3,6 @@ pub mod Fits
 pub mod Exact
 pub mod Tables
 pub mod Loop
+pub mod Served
+pub mod Leap
 pub mod Formed

@@ -1,2 +1,3 @@
 pub mod Said
+pub mod Windows
 pub mod Words

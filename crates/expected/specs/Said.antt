@@ -1,6 +1,6 @@
 -- What the theorem of the worked cases, `cases-right`, says of each of its lines, so that a program can cite the line that it runs; then
--- openings and beacons as those lines have them. Nothing is computed again but the plan of a table that holds nothing, which is in no list.
--- Assumes nothing.
+-- openings, beacons and windows as those lines have them. Nothing is computed again but the plan of a table that holds nothing, which is
+-- in no list. Assumes nothing.
 use Prim.Native.Nat.{ℕ, zero, suc, _+_, _*_, _<_, _≤_}
 use mathlib.Core.Path.{_≡_, refl, sym, ap, _∙_}
 use mathlib.Core.Logic.{_⊎_, inl, inr}
@@ -16,13 +16,15 @@ use Rattle.lists.specs.Tests.{either, clash, and-both}
 use Rattle.model.specs.Requests.{refusal}
 use Rattle.model.specs.declared.Table.{Table}
 use Rattle.rules.specs.Share.{order}
-use Rattle.rules.specs.Slots.{tieOrder, jobs, choose, slotsFrom, stepD, prepend, runsFrom, stepE}
-use Rattle.rules.specs.Calls.{openAnswer, opened, wordsOf, planOf, advanced, refusedBeacon, plannedBeacon, beacon}
-use Rattle.rules.specs.Cases.{State, Line, Tick, reply, plays, start, cases, cases-right}
-use Rattle.rules.specs.Cases.{offers1, case1, cases23, case4, case5, case6, case7}
+use Rattle.rules.specs.Slots.{Run, tieOrder, jobs, choose, slotsFrom, stepD, prepend, runsFrom, stepE}
+use Rattle.rules.specs.Calls.{openAnswer, opened, wordsOf, planOf, advanced, Beacon, refusedBeacon, plannedBeacon, beacon}
+use Rattle.rules.specs.Reading.{windowAnswer, windowPart}
+use Rattle.rules.specs.Cases.{State, Line, Tick, Window, reply, plays, start, cases, cases-right}
+use Rattle.rules.specs.Cases.{offers1, case1, cases23, case4, case5, case6, case7, case8}
 use Rattle.rules.specs.WellFormed.{WellFormed}
 use Rattle.ahead.specs.Formed.{opened-formed}
 use Rattle.plan.specs.Pens.{length-words}
+use Rattle.expected.specs.Windows.{answer-alone, part-alone}
 use Rattle.expected.specs.Words.{rows, row-count}
 
 -- ---- one line
@@ -80,6 +82,9 @@ at7 = at6 + length case6
 abbrev pub at8 : ℕ
 at8 = at7 + length case7
 
+abbrev pub at9 : ℕ
+at9 = at8 + length case8
+
 -- the table of what case 1 offers
 abbrev pub table1 : Table
 table1 = after start offers1 .table
@@ -108,19 +113,38 @@ unfolding beacon
 long-beacon t ws h e = rw (le-ltb (length ws) 4096 h, row-count (planOf t) e)
 
 -- one that answers 0 has written the plan, and the table is one interval on
-planned : (t : Table) (ws : List ℕ) {l : List ℕ} → beacon t ws .answer ≡ 0
-    → take (4 * beacon t ws .count) (beacon t ws .words) ≡ l → (wordsOf (planOf t) ≡ l) × (beacon t ws .table ≡ advanced t)
+planned : (t : Table) (ws : List ℕ) → beacon t ws .answer ≡ 0 → beacon t ws ≡ plannedBeacon t ws (planOf t)
 unfolding beacon
-planned t ws {l} = go (ltb (length ws) 4096)
+planned t ws = go (ltb (length ws) 4096)
   where
     go : (x : Bool) → (let b = cond x (refusedBeacon t ws) (plannedBeacon t ws (planOf t)) in
-        b .answer ≡ 0 → take (4 * b .count) (b .words) ≡ l → (wordsOf (planOf t) ≡ l) × (b .table ≡ advanced t))
-    go true z e = absurd (omega arith)
-    go false z e = (sym (take-at (wordsOf (planOf t)) _ _ (length-words (planOf t))) ∙ e, refl)
+        b .answer ≡ 0 → b ≡ plannedBeacon t ws (planOf t))
+    go true z = absurd (omega arith)
+    go false z = refl
 
-pub plan-told : {s : State} {l : List ℕ} → Told s (record { ask = Tick; answer = 0; shown = l })
-    → (rows (wordsOf (planOf (s .table))) ≡ rows l) × (beacon (s .table) (s .words) .table ≡ advanced (s .table))
-plan-told {s} p = let b = planned (s .table) (s .words) (p .answer) (p .shown) in (ap rows (b .0), b .1)
+module _ {s : State} {l : List ℕ} (p : Told s (record { ask = Tick; answer = 0; shown = l })) where
+  abbrev runs : List Run
+  runs = planOf (s .table)
+
+  words-told : wordsOf runs ≡ l
+  words-told =
+      sym (take-at (wordsOf runs) _ _ (length-words runs)) ∙ rw (planned (s .table) (s .words) (p .answer)) at (p .shown)
+
+  pub plan-told : (rows (wordsOf runs) ≡ rows l) × (beacon (s .table) (s .words) .table ≡ advanced (s .table))
+  plan-told = (ap rows words-told, ap (λ (b : Beacon). b .table) (planned (s .table) (s .words) (p .answer)))
+
+  -- a window over words that are that plan's and then others
+  pub window-told : {from until n : ℕ} {part : List ℕ}
+      → Told (reply s Tick .next) (record { ask = Window from until; answer = n; shown = part })
+      → (ws : List ℕ) {plan : List ℕ} → plan ≡ wordsOf runs ++ ws
+      → (windowAnswer plan (length (rows l)) from until ≡ n) × (windowPart plan (length (rows l)) from until ≡ part)
+  window-told {from} {until} w ws e =
+      let b = planned (s .table) (s .words) (p .answer) in
+      let old = drop (4 * length runs) (s .words) in
+      let n = row-count runs (ap rows words-told) in (
+        rw (e, n, answer-alone runs ws from until, ← answer-alone runs old from until) (rw b at (w .answer)),
+        rw (e, n, part-alone runs ws from until, ← part-alone runs old from until) (rw b at (w .shown)),
+      )
 
 -- a table that holds nothing has an empty plan
 pub nothing-planned : rows (wordsOf (planOf (opened 1))) ≡ []

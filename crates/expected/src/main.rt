@@ -1,10 +1,12 @@
-// Cases 1 to 8 and 10 of document 01, "Tested by hand", on the proved calls. Every answer, every record count and every word of a plan that
-// the document names is held to it by `check::expect`, which asks for a proof that its test passes. Case 9 reads a plan through the window,
-// which is no call here.
+// Cases 1 to 10 of document 01, "Tested by hand", on the proved calls and the proved window. Every answer, every record count, every word
+// of a plan and every word of a window's part that the document names is held to it by `check::expect`, which asks for a proof that its
+// test passes.
 ghost use Prim.Native.Nat.{_*_, _≤_};
 ghost use mathlib.Core.Path.{_≡_};
+ghost use mathlib.Core.List.{_++_};
 ghost use lib.ListN.{length, drop};
 ghost use Rattle.rules.specs.Calls.{openAnswer, opened, offerAnswer, offered, heldAnswer, withdrawn, wordsOf, planOf, advanced};
+ghost use Rattle.rules.specs.Reading.{windowAnswer, windowPart};
 ghost use Rattle.rules.specs.WellFormed.{WellFormed};
 ghost use Rattle.planner.specs.Numbers.{beaconNumber, request};
 ghost use Rattle.expected.specs.Said.{table1};
@@ -105,7 +107,8 @@ fn beacon(t: Table, plan: &mut [u32], records: &[[u32; 4]]) -> Table
     requires { ⌜ rows (wordsOf (planOf t)) ≡ now records ⌝ }
     ensures is { λ r. ⌜ r ≡ advanced t ⌝ }
     ensures formed { λ r. ⌜ WellFormed r ⌝ }
-    ensures later { λ r. let n = 4 * length (now (records .entry)) in ⌜ drop n (now (plan .exit)) ≡ drop n (now (plan .entry)) ⌝ }
+    ensures words { λ r.
+        ⌜ now (plan .exit) ≡ wordsOf (planOf t) ++ drop (4 * length (now (records .entry))) (now (plan .entry)) ⌝ }
 {
     let b = planner::beacon(t, plan);
     expect_beacon(b, 0, records.len());
@@ -126,8 +129,20 @@ fn refused_beacon(t: Table, plan: &mut [u32]) -> Table
     b.table
 }
 
+// The part is these words, no more and no fewer. The word lent for the answer is at first none that a window gives.
+fn expect_window(plan: &[u32], count: usize, from: u32, until: u32, expected: u32, words: &[u32])
+    requires { ⌜ windowAnswer (now plan) count from until ≡ expected ⌝ }
+    requires { ⌜ windowPart (now plan) count from until ≡ now words ⌝ }
+{
+    let mut answer: u32 = 77777;
+    let part = window::window(plan, count, from, until, &mut answer);
+    check::expect(answer == expected);
+    check::expect(part.len() == words.len());
+    expect_words(part, words);
+}
+
 // ---- the cases
-// What case 1 offers, and cases 4 and 10 go on from.
+// What case 1 offers, and cases 4, 9 and 10 go on from.
 fn offers_of_case_1() -> Table
     ensures is { λ r. ⌜ r ≡ table1 ⌝ }
     ensures formed { λ r. ⌜ WellFormed r ⌝ }
@@ -144,7 +159,7 @@ fn beacon_of_case_1(t: Table, plan: &mut [u32]) -> Table
     requires { ⌜ 4096 ≤ length (now plan) ⌝ }
     ensures is { λ r. ⌜ r ≡ advanced table1 ⌝ }
     ensures formed { λ r. ⌜ WellFormed r ⌝ }
-    ensures later { λ r. ⌜ drop 20 (now (plan .exit)) ≡ drop 20 (now (plan .entry)) ⌝ }
+    ensures words { λ r. ⌜ now (plan .exit) ≡ wordsOf (planOf table1) ++ drop 20 (now (plan .entry)) ⌝ }
 {
     let records = [
         [5u32, 0, 0, 100],
@@ -216,6 +231,17 @@ fn case_8() {
     offer(t, 1, 2, 2, 1, 1, 4, 0);
 }
 
+// The plan has five records.
+fn case_9(plan: &mut [u32])
+    requires { ⌜ 4096 ≤ length (now plan) ⌝ }
+{
+    let t = offers_of_case_1();
+    beacon_of_case_1(t, plan);
+    expect_window(plan, 5, 100, 512, 0, &[9, 0, 100, 300, 7, 0, 400, 112]);
+    expect_window(plan, 5, 512, 512, 0, &[]);
+    expect_window(plan, 5, 513, 512, 41, &[]);
+}
+
 // Refused at 4,095 words, the table and every word are as before: at 4,096 the same table gives the plan of case 1, and the words after it
 // stay. The memory is all 77,777, a number that the plan does not have.
 fn case_10(plan: &mut [u32])
@@ -245,8 +271,9 @@ fn main() {
     case_6();
     case_7();
     case_8();
+    case_9(&mut plan);
     let mut lent = [77777u32; 4096];
     case_10(&mut lent);
     case_10_empty(&mut plan);
-    io::write_all(1, b"cases 1 to 8 and 10: as expected\n");
+    io::write_all(1, b"cases 1 to 10: as expected\n");
 }

@@ -1,1 +1,2 @@
+pub mod Leaps
 pub mod Turn

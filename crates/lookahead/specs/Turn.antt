@@ -1,21 +1,24 @@
--- A turn of the loop that looks ahead, by what the code found in it: that the table holds something, is overfull, misses a deadline.
--- The loop's answer v is what looking ahead says of the table at hand. Assumes nothing.
+-- A turn of the loop that looks ahead, by what the code found in it: that the table holds something, is overfull, or, after a leap,
+-- misses a deadline. The loop's answer v is what looking ahead says of the table at hand. Assumes nothing.
 use mathlib.Core.Path.{_≡_, refl, sym, ap, subst, _∙_}
 use mathlib.Core.Bool.{Bool, true, false, _||_}
 use mathlib.Core.List.{List, [], _∷_}
-use Prim.Native.Nat.{_≤_, _<_}
+use Prim.Native.Nat.{ℕ, _≤_, _<_}
 use native.Mathlib.Omega.{arith}
+use lib.Dec.{ltb}
 use lib.ListN.{length}
 use Rattle.lists.specs.Lists.{cons-if, keep, mostOf, anyOf}
 use Rattle.lists.specs.Tests.{clash, or-right}
 use Rattle.model.specs.Entries.{isHeld}
 use Rattle.model.specs.declared.Table.{Table}
-use Rattle.rules.specs.Share.{overfull, stepB}
+use Rattle.rules.specs.Share.{overfull, capacity, stepB}
 use Rattle.rules.specs.Ahead.{misses, fitsAhead}
 use Rattle.rules.specs.Calls.{heldOf}
 use Rattle.laws.specs.Places.{Tidy}
 use Rattle.ahead.specs.Moved.{lifeOf}
 use Rattle.ahead.specs.Loop.{lookedPast, past-tidy, ahead-over, ahead-misses, ahead-turn, ahead-less}
+use Rattle.ahead.specs.Leap.{Quiet, skipped-length, skipped-load, skipped-capacity, skipped-most, leap-tidy, leap-ahead}
+use Rattle.lookahead.specs.Leaps.{quietFor, leapt, leap-quiet}
 
 -- ---- a search finds one exactly where one is kept
 module _ {A : Type 0} (p : A → Bool) where
@@ -57,16 +60,47 @@ module _ (t : Table) {a : Bool} (p : a ≡ anyOf isHeld (t .entries)) where
     pub stops-full : {b v : Bool} → b ≡ full t → b ≡ true → ahead t ≡ v → false ≡ v
     stops-full q r k = sym (ahead-misses t w some-left (ap (λ c. c || late t) (sym q ∙ r))) ∙ k
 
-    pub stops-late : {b v : Bool} → b ≡ late t → b ≡ true → ahead t ≡ v → false ≡ v
-    stops-late q r k = sym (ahead-misses t w some-left (or-right (full t) (late t) (sym q ∙ r))) ∙ k
+    -- the table that the leap leaves, where the turn's own is not overfull
+    module _ {u : Table} (e : u ≡ leapt t) where
+      abbrev n : ℕ
+      n = quietFor (capacity (t .interval .0) (heldOf t)) (t .entries)
 
-    -- the table that the turn leaves
-    module _ {n : Table} (e : n ≡ lookedPast t) where
-      pub next-less : mostOf lifeOf (heldOf n) < mostOf lifeOf (heldOf t)
-      next-less = rw e (ahead-less t w some-left)
+      quiet : Quiet n t
+      quiet = leap-quiet t w (capacity (t .interval .0) (heldOf t))
 
-      pub next-tidy : Tidy n
-      next-tidy = subst Tidy (sym e) (past-tidy t w)
+      there-tidy : Tidy u
+      there-tidy = subst Tidy (sym e) (leap-tidy n t w quiet)
 
-      pub next-same : {b c v : Bool} → b ≡ full t → b ≡ false → c ≡ late t → c ≡ false → ahead t ≡ v → ahead n ≡ v
-      next-same q r s u k = ap ahead e ∙ ahead-turn t w some-left (sym q ∙ r) (sym s ∙ u) ∙ k
+      -- it is tidy, and has the capacity c of the table before
+      pub there : {c : ℕ} → c ≡ capacity (t .interval .0) (heldOf t) → Tidy u × (c ≡ capacity (u .interval .0) (heldOf u))
+      there q = (there-tidy, q ∙ sym (ap (λ x. capacity (x .interval .0) (heldOf x)) e ∙ skipped-capacity n t))
+
+      there-some : 1 ≤ length (heldOf u)
+      there-some = omega (arith, some-left, ap (λ x. length (heldOf x)) e, skipped-length n t)
+
+      module _ {b : Bool} (q : b ≡ full t) (r : b ≡ false) where
+        there-same : ahead u ≡ ahead t
+        there-same = ap ahead e ∙ leap-ahead n t w quiet some-left (sym q ∙ r)
+
+        there-full : full u ≡ false
+        there-full = ap full e ∙ ap (ltb (t .interval .0)) (skipped-load n t) ∙ sym q ∙ r
+
+        pub stops-late : {c v : Bool} → c ≡ late u → c ≡ true → ahead t ≡ v → false ≡ v
+        stops-late s h k = sym (ahead-misses u there-tidy there-some (or-right (full u) (late u) (sym s ∙ h))) ∙ there-same ∙ k
+
+        -- and the one that the turn leaves
+        pub next-same : {x : Table} {c v : Bool} → x ≡ lookedPast u → c ≡ late u → c ≡ false → ahead t ≡ v → ahead x ≡ v
+        next-same y s h k = ap ahead y ∙ ahead-turn u there-tidy there-some there-full (sym s ∙ h) ∙ there-same ∙ k
+
+      pub next-less : {x : Table} → x ≡ lookedPast u → mostOf lifeOf (heldOf x) < mostOf lifeOf (heldOf t)
+      next-less y =
+          omega (
+            arith,
+            ap (λ z. mostOf lifeOf (heldOf z)) y,
+            ahead-less u there-tidy there-some,
+            ap (λ z. mostOf lifeOf (heldOf z)) e,
+            skipped-most n t,
+          )
+
+      pub next-tidy : {x : Table} → x ≡ lookedPast u → Tidy x
+      next-tidy y = subst Tidy (sym y) (past-tidy u there-tidy)

@@ -5,6 +5,9 @@ ghost use Rattle.model.specs.Entries.{isHeld};
 ghost use Rattle.rules.specs.Ahead.{fitsAhead};
 ghost use Rattle.rules.specs.Calls.{heldOf};
 ghost use Rattle.laws.specs.Places.{Tidy};
+
+pub mod leap; // leap.rt: the intervals in which nothing ends, served as one
+
 use model::Table;
 
 // Whether any place is held: a free one has stream 0.
@@ -32,10 +35,11 @@ pub fn fits_ahead(t: Table) -> bool
             return false;
         }
         let capacity = share::capacity(now);
-        if advance::misses(now, capacity) {
+        let there = leap::leapt(now, capacity);
+        if advance::misses(there, capacity) {
             return false;
         }
-        let next = advance::advance_without_extras(now, capacity);
+        let next = advance::advance_without_extras(there, capacity);
         now = next;
     }
     true

@@ -2,7 +2,7 @@
 use borrow.Author.Needs.{needs}
 use Rattle.ahead.specs.Formed.{beacon-formed}
 use Rattle.expected.specs.Said.{long-beacon}
-use Rattle.expected.specs.Words.{plan-records, plan-later}
+use Rattle.expected.specs.Words.{plan-records}
 use Rattle.expected.proofs.beacon.Statement.{statement}
 use Rattle.expected.proofs.beacon.Tie as tie
 
@@ -31,7 +31,7 @@ returns c =
     let b = c .before .before .before .before .before .before in
     let s = b .before .before .before in
     let e = rw (long-beacon _ _ (s .pre .1 .0) (s .pre .1 .1)) at (b .beacon .ensures) in
-    (e .1 .1 .0, (rw (b .beacon .ensures .1 .1 .0) (beacon-formed _ _ (s .pre .0)), plan-later _ (s .pre .1 .1) _ (e .1 .1 .1)))
+    (e .1 .1 .0, (rw (b .beacon .ensures .1 .1 .0) (beacon-formed _ _ (s .pre .0)), e .1 .1 .1))
 
 pub beacon-spec : {M : Type 1} → statement M
 beacon-spec =

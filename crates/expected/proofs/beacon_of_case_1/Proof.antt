@@ -20,7 +20,7 @@ returns c =
     let b = c .before .before in
     let e = b .beacon .ensures in
     let s = b .before .before .before .before in
-    (rw (e .0, s .pre .0), (e .1 .0, e .1 .1))
+    (rw (e .0, s .pre .0), (e .1 .0, rw (s .pre .0) at (e .1 .1)))
 
 pub beacon-of-case-1-spec : {M : Type 1} → statement M
 beacon-of-case-1-spec =

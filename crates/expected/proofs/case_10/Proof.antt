@@ -5,7 +5,8 @@ use native.Mathlib.Omega.{arith}
 use lib.ListN.{length, drop}
 use denote.Ref.{now}
 use borrow.Author.Needs.{needs}
-use Rattle.expected.specs.Words.{Each, each-take, each-drop}
+use Rattle.expected.specs.Said.{plan-told, line}
+use Rattle.expected.specs.Words.{plan-later, Each, each-take, each-drop}
 use Rattle.expected.proofs.case_10.Statement.{statement}
 use Rattle.expected.proofs.case_10.Tie as tie
 
@@ -42,7 +43,8 @@ expect-each-requires-2 c κs =
     let r = b .before .before .before .before .before .before in
     let s = r .before .before .before .before in
     let l = b .beacon-of-case-1 .last .1 .0 in
-    let e = b .beacon-of-case-1 .ensures .1 .1 ∙ ap (drop 20) (r .refused-beacon .ensures .1 .1) in
+    let after = plan-later _ (plan-told (line 4) .0) (r .refused-beacon .last .1 .0) (b .beacon-of-case-1 .ensures .1 .1) in
+    let e = after ∙ ap (drop 20) (r .refused-beacon .ensures .1 .1) in
     each-take (length l - 20) (drop 20 l) (subst (Each 77777) (sym e) (each-drop 20 (now (s .args .plan)) (s .pre .1)))
 
 same-length : tie.Need-same-length

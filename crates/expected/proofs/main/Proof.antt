@@ -29,6 +29,12 @@ case-7-requires c κs = search needs
 case-8-requires : tie.Need-case-8-requires
 case-8-requires c κs = search needs
 
+slice-aggregate-case-9 : tie.Need-slice-aggregate-case-9
+slice-aggregate-case-9 c = search needs
+
+case-9-requires : tie.Need-case-9-requires
+case-9-requires c κs = search needs
+
 slice-aggregate-case-10 : tie.Need-slice-aggregate-case-10
 slice-aggregate-case-10 c = search needs
 
@@ -62,6 +68,8 @@ main-spec =
     case-6-requires
     case-7-requires
     case-8-requires
+    slice-aggregate-case-9
+    case-9-requires
     slice-aggregate-case-10
     case-10-requires
     slice-aggregate-case-10-empty

@@ -4,7 +4,7 @@ use Rattle.lists.specs.Lists.{mostOf}
 use Rattle.rules.specs.Calls.{heldOf}
 use Rattle.laws.specs.Places.{Tidy}
 use Rattle.ahead.specs.Moved.{lifeOf}
-use Rattle.lookahead.specs.Turn.{ahead, none-left, stops-full, stops-late, next-less, next-tidy, next-same}
+use Rattle.lookahead.specs.Turn.{ahead, none-left, stops-full, there, stops-late, next-less, next-tidy, next-same}
 use Rattle.lookahead.proofs.fits_ahead.Statement.{statement}
 use Rattle.lookahead.proofs.fits_ahead.Tie as tie
 
@@ -34,34 +34,51 @@ returns c =
 capacity-requires : tie.Need-capacity-requires Inv-loop μ-loop
 capacity-requires c κs = search needs
 
+leapt-requires : tie.Need-leapt-requires Inv-loop μ-loop
+leapt-requires c κs = search needs
+
 misses-requires : tie.Need-misses-requires Inv-loop μ-loop
-misses-requires c κs = search needs
+misses-requires c κs =
+    let h = c .before .before .before .before in
+    let l = h .before .before .loop in
+    let found = h .before .any-held .ensures in
+    search (needs, there (l .now) found (h .if1 .taken) (l .inv .0) (c .leapt .ensures) (c .before .capacity .ensures))
 
 returns-2 : tie.Need-returns-2 Inv-loop μ-loop
 returns-2 c =
-    let h = c .before .before .before .before .before in
+    let o = c .before .before .before .before in
+    let h = o .before .before in
     let l = h .before .before .loop in
-    let found = h .before .any-held .ensures in
-    stops-late (l .now) found (h .if1 .taken) (l .inv .0) (c .before .misses .ensures) (c .if3 .taken) (l .inv .1)
+    let e = c .before .before .leapt .ensures in
+    stops-late (l .now) (h .before .any-held .ensures) (h .if1 .taken) (l .inv .0) e (o .before .overfull .ensures) (o .if2 .left)
+    (c .before .misses .ensures) (c .if3 .taken) (l .inv .1)
 
 advance-without-extras-requires : tie.Need-advance-without-extras-requires Inv-loop μ-loop
-advance-without-extras-requires c κs = search needs
+advance-without-extras-requires c κs =
+    let a = c .before .before in
+    let h = a .before .before .before .before in
+    let l = h .before .before .loop in
+    let found = h .before .any-held .ensures in
+    search (needs, there (l .now) found (h .if1 .taken) (l .inv .0) (a .leapt .ensures) (a .before .capacity .ensures))
 
 loop-less : tie.Need-loop-less Inv-loop μ-loop
 loop-less c =
-    let h = c .before .before .before .before .before .before in
+    let a = c .before .before .before in
+    let h = a .before .before .before .before in
     let l = h .before .before .loop in
-    next-less (l .now) (h .before .any-held .ensures) (h .if1 .taken) (l .inv .0) (c .advance-without-extras .ensures)
+    next-less (l .now) (h .before .any-held .ensures) (h .if1 .taken) (l .inv .0) (a .leapt .ensures)
+    (c .advance-without-extras .ensures)
 
 loop-again : tie.Need-loop-again Inv-loop μ-loop
 loop-again c =
-    let o = c .before .before .before .before in
+    let a = c .before .before .before in
+    let o = a .before .before in
     let h = o .before .before in
     let l = h .before .before .loop in
     let e = c .advance-without-extras .ensures in
     let found = h .before .any-held .ensures in (
-      next-tidy (l .now) found (h .if1 .taken) (l .inv .0) e,
-      next-same (l .now) found (h .if1 .taken) (l .inv .0) e (o .before .overfull .ensures) (o .if2 .left)
+      next-tidy (l .now) found (h .if1 .taken) (l .inv .0) (a .leapt .ensures) e,
+      next-same (l .now) found (h .if1 .taken) (l .inv .0) (a .leapt .ensures) (o .before .overfull .ensures) (o .if2 .left) e
           (c .before .before .misses .ensures) (c .before .if3 .left) (l .inv .1),
     )
 
@@ -81,6 +98,7 @@ fits-ahead-spec =
     overfull-requires
     returns
     capacity-requires
+    leapt-requires
     misses-requires
     returns-2
     advance-without-extras-requires
