@@ -52,7 +52,11 @@ fn run(group: &str, folder: &Path) -> io::Result<String> {
         .stderr(Stdio::inherit())
         .output()?;
     let lines = String::from_utf8_lossy(&output.stdout).into_owned();
-    if output.status.success() { Ok(lines) } else { Err(io::Error::other(format!("valgrind: {}", output.status))) }
+    if output.status.success() {
+        Ok(lines)
+    } else {
+        Err(io::Error::other(format!("valgrind: {}", output.status)))
+    }
 }
 
 /// Pairs the printed lines with the counts written beside them, less what the marks cost.
@@ -82,7 +86,8 @@ fn parse(line: &str, dump: &str) -> Option<Count> {
 
 /// The count of a planner's call at a size.
 pub fn find(counts: &[Count], size: u32, call: Call, planner: &str) -> Option<u64> {
-    let matches = |count: &&Count| count.size == size && count.call == call.name() && count.planner == planner;
+    let matches =
+        |count: &&Count| count.size == size && count.call == call.name() && count.planner == planner;
     counts.iter().find(matches).map(|count| count.instructions)
 }
 

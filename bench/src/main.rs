@@ -8,7 +8,7 @@ use std::{env, fs};
 
 use bench::{counting, report};
 
-const DAYS: usize = 2_000;
+const DAYS: usize = 5_000;
 const SEED: u64 = 1;
 
 fn main() -> ExitCode {
@@ -29,13 +29,17 @@ fn work(words: &[&str]) -> io::Result<()> {
         ["calls"] => print!("{}", report::calls()?),
         ["growth", folder] => growth(Path::new(folder))?,
         ["worst"] => print!("{}", report::worst()?),
-        ["days", days, seed] => print!("{}", report::days(number(days)? as usize, number(seed)?)),
+        ["days", days, seed] => print!("{}", report::days(number(days)? as usize, number(seed)?)?),
         ["all", folder] => {
             print!("{}\n{}\n", report::calls()?, report::worst()?);
             growth(Path::new(folder))?;
-            print!("\n{}", report::days(DAYS, SEED));
+            print!("\n{}", report::days(DAYS, SEED)?);
         }
-        _ => return Err(io::Error::other("usage: bench calls | growth FOLDER | worst | days DAYS SEED | all FOLDER")),
+        _ => {
+            return Err(io::Error::other(
+                "usage: bench calls | growth FOLDER | worst | days DAYS SEED | all FOLDER",
+            ));
+        }
     }
     Ok(())
 }

@@ -95,7 +95,8 @@ fn tick(out: &mut String, x: f64, y: f64, anchor: &str, power: i32) {
 }
 
 fn draw(out: &mut String, x: &Axis, y: &Axis, line: &Line, place: usize) {
-    const STYLES: [(&str, &str); 4] = [("#000", "none"), ("#555", "6 3"), ("#888", "2 3"), ("#aaa", "8 2 2 2")];
+    const STYLES: [(&str, &str); 4] =
+        [("#000", "none"), ("#555", "6 3"), ("#888", "2 3"), ("#aaa", "8 2 2 2")];
     let (grey, dashes) = STYLES[place % STYLES.len()];
     let at: Vec<String> =
         line.points.iter().map(|point| format!("{:.1},{:.1}", x.place(point.0), y.place(point.1))).collect();

@@ -11,7 +11,12 @@ pub fn write(slots: &[u16], plan: &mut [u32], mut seen: impl FnMut(u32, u64)) ->
         let owner = slots[start];
         let length = slots[start..].iter().take_while(|&&other| other == owner).count();
         if owner != 0 {
-            plan[WORDS * count..WORDS * (count + 1)].copy_from_slice(&[owner.into(), 0, start as u32, length as u32]);
+            plan[WORDS * count..WORDS * (count + 1)].copy_from_slice(&[
+                owner.into(),
+                0,
+                start as u32,
+                length as u32,
+            ]);
             seen(owner.into(), length as u64);
             count += 1;
         }

@@ -74,20 +74,24 @@ pub trait Subject {
 
 struct Prepared<P> {
     setting: Setting,
-    held: P,
+    /// Before and after the setting's offer.
+    before: P,
+    after: P,
+    /// The plan of the interval after it.
     plan: Vec<u32>,
     count: usize,
 }
 
 impl<P: Planner> Prepared<P> {
     fn new(setting: &Setting) -> Prepared<P> {
-        let mut held = P::open(setting.units);
-        for offer in &setting.held {
-            assert_eq!(held.offer(offer), 0, "{offer:?} to {}", P::NAME);
-        }
+        let mut before = P::open(setting.units);
+        let accept = |planner: &mut P, offer| assert_eq!(planner.offer(offer), 0, "{offer:?} to {}", P::NAME);
+        setting.held.iter().for_each(|offer| accept(&mut before, offer));
+        let mut after = before.clone();
+        accept(&mut after, &setting.offered);
         let mut plan = vec![0; PLAN_WORDS];
-        let count = held.clone().beacon(&mut plan);
-        Prepared { setting: setting.clone(), held, plan, count }
+        let count = after.clone().beacon(&mut plan);
+        Prepared { setting: setting.clone(), before, after, plan, count }
     }
 }
 
@@ -97,21 +101,20 @@ impl<P: Planner> Subject for Prepared<P> {
     }
 
     fn has(&self, call: Call) -> bool {
-        P::READS || !call.reads()
+        P::READS || call.is_published()
     }
 
     fn measure(&self, call: Call, meter: &mut Meter) {
         let Setting { units, held, offered, .. } = &self.setting;
-        let stream = |offer: Option<&reference::Offer>| offer.map_or(1, |offer| offer.stream);
-        let (first, last) = (stream(held.first()), stream(held.last()));
+        let first = held.first().unwrap_or(offered).stream;
         let quarter = 256 * units;
         match call {
             Call::Open => meter.run(&(), |()| P::open(black_box(*units))),
-            Call::Offer => meter.run(&self.held, |planner| planner.offer(black_box(offered))),
-            Call::Withdraw => meter.run(&self.held, |planner| planner.withdraw(black_box(first))),
-            Call::Enquire => meter.run(&self.held, |planner| planner.enquire(black_box(last))),
+            Call::Offer => meter.run(&self.before, |planner| planner.offer(black_box(offered))),
+            Call::Withdraw => meter.run(&self.after, |planner| planner.withdraw(black_box(first))),
+            Call::Enquire => meter.run(&self.after, |planner| planner.enquire(black_box(offered.stream))),
             Call::Beacon => {
-                let state = (self.held.clone(), self.plan.clone());
+                let state = (self.after.clone(), self.plan.clone());
                 meter.run(&state, |(planner, plan)| planner.beacon(plan));
             }
             Call::Window => {

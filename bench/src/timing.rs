@@ -46,6 +46,17 @@ fn median(values: &mut [f64]) -> f64 {
 #[cfg(test)]
 mod tests {
     use super::*;
+    use crate::settings;
+
+    /// The first planner to itself is 1, and every planner that has the call is there.
+    #[test]
+    fn planners_take_turns() {
+        let setting = &settings::of("calls")[0];
+        let offer = ratios(setting, Call::Offer);
+        assert_eq!(offer[0].1, 1.0);
+        assert!(offer.iter().any(|ratio| ratio.0 == "EACIAR" && ratio.1 > 0.0));
+        assert!(ratios(setting, Call::Window).iter().all(|ratio| ratio.0 != "EACIAR"));
+    }
 
     #[test]
     fn medians() {
