@@ -98,7 +98,7 @@ mod tests {
     #[test]
     fn counts_are_read() {
         let count = parse("12 offer EACIAR", "version: 1\nsummary: 4711\nfn=x\n").unwrap();
-        assert_eq!(find(&[count.clone()], 12, Call::Offer, "EACIAR"), Some(4_711));
+        assert_eq!(find(std::slice::from_ref(&count), 12, Call::Offer, "EACIAR"), Some(4_711));
         assert_eq!(find(&[count], 12, Call::Beacon, "EACIAR"), None);
         assert_eq!(parse("12 offer EACIAR", "version: 1\n"), None);
     }

@@ -267,9 +267,11 @@ fn place_fractions(slots: &mut [u16], rows: &[Row], need: impl Fn(&Row) -> u64) 
         }));
     }
     jobs.sort_by_key(|job| (job.due, rows[job.row].offer.stream));
-    jobs.iter()
-        .map(|job| place(slots, rows[job.row].offer.stream, job.release, job.due, job.need))
-        .fold(true, |served, rest| served && rest == 0)
+    let mut served = true;
+    for job in jobs {
+        served &= place(slots, rows[job.row].offer.stream, job.release, job.due, job.need) == 0;
+    }
+    served
 }
 
 /// Lines 29 to 41: what whole streams lack, by deadline. Says whether those due at the end of this interval are met.

@@ -29,10 +29,8 @@ pub fn ratios(setting: &Setting, call: Call) -> Vec<(&'static str, f64)> {
     let copies: Vec<usize> = subjects.iter().map(|subject| copies(&**subject, call)).collect();
     let mut rounds: Vec<Vec<f64>> = vec![Vec::new(); subjects.len()];
     for _ in 0..ROUNDS {
-        let each = |(subject, &copies): (&Box<dyn Subject>, &usize)| {
-            time(&**subject, call, copies).as_secs_f64() / copies as f64
-        };
-        let times: Vec<f64> = subjects.iter().zip(&copies).map(each).collect();
+        let each = |i: usize| time(&*subjects[i], call, copies[i]).as_secs_f64() / copies[i] as f64;
+        let times: Vec<f64> = (0..subjects.len()).map(each).collect();
         rounds.iter_mut().zip(&times).for_each(|(round, time)| round.push(times[0] / time));
     }
     subjects.iter().map(|subject| subject.name()).zip(rounds.iter_mut().map(|round| median(round))).collect()
