@@ -6,3 +6,4 @@ pub mod Loop
 pub mod Served
 pub mod Leap
 pub mod Formed
+pub mod Even

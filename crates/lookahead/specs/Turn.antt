@@ -3,15 +3,19 @@
 use mathlib.Core.Path.{_≡_, refl, sym, ap, subst, _∙_}
 use mathlib.Core.Bool.{Bool, true, false, _||_}
 use mathlib.Core.List.{List, [], _∷_}
-use Prim.Native.Nat.{ℕ, _≤_, _<_}
+use Prim.Native.Nat.{ℕ, _+_, _-_, _≤_, _<_, max}
 use native.Mathlib.Omega.{arith}
-use lib.Dec.{ltb}
+use lib.Dec.{ltb, leb}
 use lib.ListN.{length}
-use Rattle.lists.specs.Lists.{cons-if, keep, mostOf, anyOf}
-use Rattle.lists.specs.Tests.{clash, or-right}
+use borrow.Author.Tests.{leb-true, le-leb, lt-leb}
+use Rattle.ahead.specs.Even.{evenly, even-ahead}
+use Rattle.ahead.specs.Tables.{tidy-together}
+use Rattle.lists.specs.Sums.{sum-keep-le}
+use Rattle.lists.specs.Lists.{cons-if, keep, mostOf, anyOf, sumOf}
+use Rattle.lists.specs.Tests.{clash, or-right, same-test}
 use Rattle.model.specs.Entries.{isHeld}
 use Rattle.model.specs.declared.Table.{Table}
-use Rattle.rules.specs.Share.{overfull, capacity, stepB}
+use Rattle.rules.specs.Share.{overfull, capacity, stepB, load}
 use Rattle.rules.specs.Ahead.{misses, fitsAhead}
 use Rattle.rules.specs.Calls.{heldOf}
 use Rattle.laws.specs.Places.{Tidy}
@@ -47,6 +51,30 @@ full t = overfull (t .interval .0) (heldOf t)
 
 abbrev pub late : Table → Bool
 late t = anyOf (misses (stepB (t .interval .0) (heldOf t))) (heldOf t)
+
+-- ---- a quick yes
+pub larger-right : (a b : ℕ) → a ≤ b → b ≡ max a b
+larger-right a b h = omega arith
+
+pub larger-left : (a b : ℕ) → b ≤ a → a ≡ max a b
+larger-left a b h = omega arith
+
+pub over-test : (l s b : ℕ) → b < l → false ≡ leb (l + s) b
+over-test l s b h = sym (lt-leb (l + s) b (omega arith))
+
+pub even-test : (l s b : ℕ) → l ≤ b → leb s (b - l) ≡ leb (l + s) b
+even-test l s b h =
+    same-test (leb s (b - l)) (leb (l + s) b)
+    (λ e. let k = leb-true s (b - l) e in le-leb (l + s) b (omega arith))
+    (λ e. let k = leb-true (l + s) b e in le-leb s (b - l) (omega arith))
+
+-- looking ahead says yes where an even share is enough
+pub stops-even : (t : Table) {b v : Bool} → Tidy t → b ≡ leb (load (heldOf t) + sumOf evenly (t .entries)) (t .interval .0) → b ≡ true
+    → ahead t ≡ v → true ≡ v
+stops-even t w q r k =
+    let h = leb-true (load (heldOf t) + sumOf evenly (t .entries)) (t .interval .0) (sym q ∙ r) in
+    let fewer = sum-keep-le evenly isHeld (t .entries) in
+    sym (even-ahead (t .interval .0) (heldOf t) (tidy-together w) (omega arith)) ∙ k
 
 -- at a table t; a is what the search for a held place found
 module _ (t : Table) {a : Bool} (p : a ≡ anyOf isHeld (t .entries)) where

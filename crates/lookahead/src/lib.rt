@@ -6,6 +6,7 @@ ghost use Rattle.rules.specs.Ahead.{fitsAhead};
 ghost use Rattle.rules.specs.Calls.{heldOf};
 ghost use Rattle.laws.specs.Places.{Tidy};
 
+pub mod even; // even.rt: a quick yes where an even share is enough
 pub mod leap; // leap.rt: the intervals in which nothing ends, served as one
 
 use model::Table;
@@ -24,13 +25,16 @@ fn any_held(t: Table) -> bool
     false
 }
 
-// Stops at the first miss, and when all lives are used up.
+// Stops at the first miss, when an even share is enough for what is left, and when all lives are used up.
 pub fn fits_ahead(t: Table) -> bool
     requires { ⌜ Tidy t ⌝ }
     ensures { λ r. ⌜ r ≡ fitsAhead (t .interval .0) (heldOf t) ⌝ }
 {
     let mut now = t;
     while any_held(now) {
+        if even::fits_evenly(now) {
+            return true;
+        }
         if share::overfull(now) {
             return false;
         }

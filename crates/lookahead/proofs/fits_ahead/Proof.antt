@@ -4,7 +4,7 @@ use Rattle.lists.specs.Lists.{mostOf}
 use Rattle.rules.specs.Calls.{heldOf}
 use Rattle.laws.specs.Places.{Tidy}
 use Rattle.ahead.specs.Moved.{lifeOf}
-use Rattle.lookahead.specs.Turn.{ahead, none-left, stops-full, there, stops-late, next-less, next-tidy, next-same}
+use Rattle.lookahead.specs.Turn.{ahead, none-left, stops-even, stops-full, there, stops-late, next-less, next-tidy, next-same}
 use Rattle.lookahead.proofs.fits_ahead.Statement.{statement}
 use Rattle.lookahead.proofs.fits_ahead.Tie as tie
 
@@ -21,15 +21,23 @@ loop-holds c = (c .pre, refl)
 any-held-requires : tie.Need-any-held-requires Inv-loop μ-loop
 any-held-requires c κs = search needs
 
-overfull-requires : tie.Need-overfull-requires Inv-loop μ-loop
-overfull-requires c κs = search needs
+fits-evenly-requires : tie.Need-fits-evenly-requires Inv-loop μ-loop
+fits-evenly-requires c κs = search needs
 
 returns : tie.Need-returns Inv-loop μ-loop
 returns c =
-    let h = c .before .before in
+    let l = c .before .before .before .before .loop in
+    stops-even (l .now) (l .inv .0) (c .before .fits-evenly .ensures) (c .if2 .taken) (l .inv .1)
+
+overfull-requires : tie.Need-overfull-requires Inv-loop μ-loop
+overfull-requires c κs = search needs
+
+returns-2 : tie.Need-returns-2 Inv-loop μ-loop
+returns-2 c =
+    let h = c .before .before .before .before in
     let l = h .before .before .loop in
     let found = h .before .any-held .ensures in
-    stops-full (l .now) found (h .if1 .taken) (l .inv .0) (c .before .overfull .ensures) (c .if2 .taken) (l .inv .1)
+    stops-full (l .now) found (h .if1 .taken) (l .inv .0) (c .before .overfull .ensures) (c .if3 .taken) (l .inv .1)
 
 capacity-requires : tie.Need-capacity-requires Inv-loop μ-loop
 capacity-requires c κs = search needs
@@ -39,24 +47,24 @@ leapt-requires c κs = search needs
 
 misses-requires : tie.Need-misses-requires Inv-loop μ-loop
 misses-requires c κs =
-    let h = c .before .before .before .before in
+    let h = c .before .before .before .before .before .before in
     let l = h .before .before .loop in
     let found = h .before .any-held .ensures in
     search (needs, there (l .now) found (h .if1 .taken) (l .inv .0) (c .leapt .ensures) (c .before .capacity .ensures))
 
-returns-2 : tie.Need-returns-2 Inv-loop μ-loop
-returns-2 c =
+returns-3 : tie.Need-returns-3 Inv-loop μ-loop
+returns-3 c =
     let o = c .before .before .before .before in
-    let h = o .before .before in
+    let h = o .before .before .before .before in
     let l = h .before .before .loop in
     let e = c .before .before .leapt .ensures in
-    stops-late (l .now) (h .before .any-held .ensures) (h .if1 .taken) (l .inv .0) e (o .before .overfull .ensures) (o .if2 .left)
-    (c .before .misses .ensures) (c .if3 .taken) (l .inv .1)
+    stops-late (l .now) (h .before .any-held .ensures) (h .if1 .taken) (l .inv .0) e (o .before .overfull .ensures) (o .if3 .left)
+    (c .before .misses .ensures) (c .if4 .taken) (l .inv .1)
 
 advance-without-extras-requires : tie.Need-advance-without-extras-requires Inv-loop μ-loop
 advance-without-extras-requires c κs =
     let a = c .before .before in
-    let h = a .before .before .before .before in
+    let h = a .before .before .before .before .before .before in
     let l = h .before .before .loop in
     let found = h .before .any-held .ensures in
     search (needs, there (l .now) found (h .if1 .taken) (l .inv .0) (a .leapt .ensures) (a .before .capacity .ensures))
@@ -64,7 +72,7 @@ advance-without-extras-requires c κs =
 loop-less : tie.Need-loop-less Inv-loop μ-loop
 loop-less c =
     let a = c .before .before .before in
-    let h = a .before .before .before .before in
+    let h = a .before .before .before .before .before .before in
     let l = h .before .before .loop in
     next-less (l .now) (h .before .any-held .ensures) (h .if1 .taken) (l .inv .0) (a .leapt .ensures)
     (c .advance-without-extras .ensures)
@@ -73,17 +81,17 @@ loop-again : tie.Need-loop-again Inv-loop μ-loop
 loop-again c =
     let a = c .before .before .before in
     let o = a .before .before in
-    let h = o .before .before in
+    let h = o .before .before .before .before in
     let l = h .before .before .loop in
     let e = c .advance-without-extras .ensures in
     let found = h .before .any-held .ensures in (
       next-tidy (l .now) found (h .if1 .taken) (l .inv .0) (a .leapt .ensures) e,
-      next-same (l .now) found (h .if1 .taken) (l .inv .0) (a .leapt .ensures) (o .before .overfull .ensures) (o .if2 .left) e
-          (c .before .before .misses .ensures) (c .before .if3 .left) (l .inv .1),
+      next-same (l .now) found (h .if1 .taken) (l .inv .0) (a .leapt .ensures) (o .before .overfull .ensures) (o .if3 .left) e
+          (c .before .before .misses .ensures) (c .before .if4 .left) (l .inv .1),
     )
 
-returns-3 : tie.Need-returns-3 Inv-loop μ-loop
-returns-3 c =
+returns-4 : tie.Need-returns-4 Inv-loop μ-loop
+returns-4 c =
     let l = c .before .before .loop in
     none-left (l .now) (c .before .any-held .ensures) (c .if1 .left) (l .inv .1)
 
@@ -95,13 +103,15 @@ fits-ahead-spec =
     μ-loop
     loop-holds
     any-held-requires
-    overfull-requires
+    fits-evenly-requires
     returns
+    overfull-requires
+    returns-2
     capacity-requires
     leapt-requires
     misses-requires
-    returns-2
+    returns-3
     advance-without-extras-requires
     loop-less
     loop-again
-    returns-3)
+    returns-4)
