@@ -71,7 +71,7 @@ pub fn worst() -> io::Result<String> {
             vec![name, shown(ours), shown(second), part(ours, second)]
         })
         .collect();
-    Ok(table::print(&["held, beside one whole stream of period 1", "ours", "second", "ours/second"], &rows))
+    Ok(table::print(&["29 held", "ours", "second", "ours/second"], &rows))
 }
 
 /// What grows, and in which calls that is seen.
@@ -90,8 +90,8 @@ pub const GROWTHS: [Growth; 5] = [
     },
     Growth { group: "requests", across: "requests, 15 time units", calls: &[Call::Offer, Call::Beacon] },
     Growth { group: "jobs", across: "jobs of 32 fraction streams, 15 time units", calls: &[Call::Beacon] },
-    Growth { group: "lives", across: "life in intervals, nothing ends before", calls: &[Call::Offer] },
-    Growth { group: "periods", across: "life in intervals, a period ends in each", calls: &[Call::Offer] },
+    Growth { group: "lives", across: "life in intervals", calls: &[Call::Offer] },
+    Growth { group: "full", across: "life in intervals, worst table", calls: &[Call::Offer] },
 ];
 
 /// A table for each call, and its plot with the name of its file.

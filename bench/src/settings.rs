@@ -50,8 +50,19 @@ pub struct Setting {
     pub offered: Offer,
     /// The calls to measure.
     pub calls: &'static [Call],
-    /// Whether the slot arrays of the published procedure are small enough here.
-    pub arrays: bool,
+    /// Whose turn it is beside ours.
+    pub peers: Peers,
+}
+
+/// The planners measured beside ours. Callgrind is slow, so some stay out where they would only repeat what smaller sizes show.
+#[derive(Clone, Copy, Debug, PartialEq, Eq)]
+pub enum Peers {
+    /// The second implementation and the published procedure.
+    Both,
+    /// The second implementation: the published one's slot arrays would be large.
+    Second,
+    /// None.
+    Nobody,
 }
 
 const MOVES: &[Call] = &[Call::Offer, Call::Beacon];
@@ -84,7 +95,7 @@ fn mixed(i: u32) -> Offer {
 fn mix(group: &'static str, size: u32, units: u32, requests: u32, calls: &'static [Call]) -> Setting {
     let mut held: Vec<Offer> = (0..requests - 1).map(mixed).collect();
     held.sort_by_key(|offer| offer.kind);
-    Setting { group, size, units, held, offered: transfer(99, 4, 60), calls, arrays: true }
+    Setting { group, size, units, held, offered: transfer(99, 4, 60), calls, peers: Peers::Both }
 }
 
 /// The requests of case 1 of document 01, a table of 12 and a full one, with every call.
@@ -116,54 +127,63 @@ fn jobs() -> Vec<Setting> {
     [2, 4, 8, 16].map(setting).into()
 }
 
-const LIVES: [u32; 9] = [1, 4, 16, 64, 256, 1_024, 4_096, 16_384, 65_535];
-
 /// The longest life for which the published procedure is run: its arrays have a slot for each slot of these intervals.
 const LONGEST_ARRAYS: u32 = 256;
 
-/// 31 requests, nothing of which ends before the last interval, and an offer of the same life.
-fn lasting(group: &'static str, life: u32, offered: Offer) -> Setting {
-    let held =
-        (1..=31).map(|i| if i % 2 == 0 { fraction(i, 2, 2, life) } else { transfer(i, life, 8 * life) });
-    let (held, arrays) = (held.collect(), life <= LONGEST_ARRAYS);
-    Setting { group, size: life, units: 1, held, offered, calls: OFFERS, arrays }
-}
-
-/// Lives grow, and nothing else happens before their end.
+/// Lives grow: 15 fraction streams and 16 transfers, nothing of which ends before the last interval, and a transfer of the same life.
 fn lives() -> Vec<Setting> {
-    LIVES.map(|life| lasting("lives", life, transfer(99, life, 8 * life))).into()
+    let held = |life| {
+        (1..=31).map(move |i| if i < 16 { fraction(i, 2, 2, life) } else { transfer(i, life, 8 * life) })
+    };
+    let setting = |life| Setting {
+        held: held(life).collect(),
+        offered: transfer(99, life, 8 * life),
+        peers: if life <= LONGEST_ARRAYS { Peers::Both } else { Peers::Second },
+        ..mix("lives", life, 1, 1, OFFERS)
+    };
+    [1, 4, 16, 64, 256, 1_024, 4_096, 16_384, 65_535].map(setting).into()
 }
 
-/// Lives grow, and a period ends in each interval.
-fn periods() -> Vec<Setting> {
-    LIVES.map(|life| lasting("periods", life, whole(99, 1, 8, life))).into()
+/// A table that the offer fills, with 29 requests of 20 slots an interval. The first two streams keep an even share from being enough:
+/// of their 301 slots in three intervals it would take 101 in each, which makes 1,025 of 1,024 slots. So looking ahead has to go on to the
+/// end, and the offered stream's period ends in each interval.
+fn filled(group: &'static str, size: u32, life: u32, others: impl Fn(u32) -> Offer) -> Setting {
+    let uneven = [1, 2].map(|stream| Offer { max: 301, ..whole(stream, 3, 301, life) });
+    let held = uneven.into_iter().chain((3..=31).map(others)).collect();
+    let offered = Offer { max: 243, ..whole(99, 1, 243, life) };
+    Setting { held, offered, peers: Peers::Second, ..mix(group, size, 1, 1, OFFERS) }
 }
 
-/// Tables of life 240 in which each interval ends something: candidates for the worst input of looking ahead.
+/// Lives grow on the worst table: 30 whole streams of period 1.
+fn full() -> Vec<Setting> {
+    let setting = |life| Setting {
+        peers: if life < 65_535 { Peers::Second } else { Peers::Nobody },
+        ..filled("full", life, life, |i| whole(i, 1, 20, life))
+    };
+    [3, 15, 51, 255, 771, 3_855, 13_107, 65_535].map(setting).into()
+}
+
+/// Candidates for the worst input of looking ahead, all of life 240.
 fn worst() -> Vec<Setting> {
     const LIFE: u32 = 240;
-    let base = || Setting { arrays: false, ..lasting("worst", LIFE, whole(99, 1, 8, LIFE)) };
-    let with = |size, held: Vec<Offer>| Setting { size, held, ..base() };
     vec![
-        with(1, base().held),
-        with(2, (1..=31).map(|i| fraction(i, 2, 2, LIFE)).collect()),
-        with(3, (1..=31).map(|i| transfer(i, LIFE, 1_016 * LIFE / 31)).collect()),
-        with(4, (1..=31).map(|i| transfer(i, LIFE - i, 8 * (LIFE - i))).collect()),
-        with(5, (1..=31).map(|i| whole(i, 1, 8, LIFE)).collect()),
-        with(6, (1..=31).map(|i| whole(i, 120, 8 * 120, LIFE)).collect()),
-        with(7, (1..=31).map(|i| whole(i, [1, 2, 3, 4, 5, 6][i as usize % 6], 8, LIFE)).collect()),
+        filled("worst", 1, LIFE, |i| fraction(i, 2, 10, LIFE)),
+        filled("worst", 2, LIFE, |i| transfer(i, LIFE, 20 * LIFE)),
+        filled("worst", 3, LIFE, |i| whole(i, 120, 20 * 120, LIFE)),
+        filled("worst", 4, LIFE, |i| whole(i, i % 6 + 1, 20 * (i % 6 + 1), LIFE)),
+        filled("worst", 5, LIFE, |i| whole(i, 2, 40, LIFE)),
+        filled("worst", 6, LIFE, |i| whole(i, 1, 20, LIFE)),
     ]
 }
 
-/// What the candidates for the worst input are, by their size.
-pub const CANDIDATES: [&str; 7] = [
-    "16 transfers and 15 fraction streams",
-    "31 fraction streams",
-    "31 transfers with one deadline, which fill the time",
-    "31 transfers with 31 deadlines",
-    "31 whole streams of period 1",
-    "31 whole streams of period 120",
-    "31 whole streams of periods 1 to 6",
+/// The 29 that the candidates for the worst input hold, by their size.
+pub const CANDIDATES: [&str; 6] = [
+    "fraction streams",
+    "transfers with one deadline",
+    "whole streams of period 120",
+    "whole streams of periods 1 to 6",
+    "whole streams of period 2",
+    "whole streams of period 1",
 ];
 
 /// All settings of a group.
@@ -174,7 +194,7 @@ pub fn of(group: &str) -> Vec<Setting> {
         "requests" => requests(),
         "jobs" => jobs(),
         "lives" => lives(),
-        "periods" => periods(),
+        "full" => full(),
         "worst" => worst(),
         _ => Vec::new(),
     }
@@ -196,11 +216,13 @@ mod tests {
     /// The figures are about calls that succeed.
     #[test]
     fn all_is_accepted() {
-        for group in ["calls", "units", "requests", "jobs", "lives", "periods", "worst"] {
+        for group in ["calls", "units", "requests", "jobs", "lives", "full", "worst"] {
             for setting in of(group) {
                 assert!(setting.held.len() < 32);
-                accepts::<Second>(&setting);
-                if setting.arrays && setting.size <= 64 {
+                if setting.peers != Peers::Nobody {
+                    accepts::<Second>(&setting);
+                }
+                if setting.peers == Peers::Both && setting.size <= 64 {
                     accepts::<Eaciar>(&setting);
                 }
             }

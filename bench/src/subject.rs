@@ -10,7 +10,7 @@ use crate::eaciar::Eaciar;
 #[cfg(feature = "ours")]
 use crate::planner::Ours;
 use crate::planner::{Planner, Second};
-use crate::settings::{Call, Setting};
+use crate::settings::{Call, Peers, Setting};
 
 static MARKS: AtomicU32 = AtomicU32::new(0);
 
@@ -88,7 +88,10 @@ impl<P: Planner> Prepared<P> {
         let accept = |planner: &mut P, offer| assert_eq!(planner.offer(offer), 0, "{offer:?} to {}", P::NAME);
         setting.held.iter().for_each(|offer| accept(&mut before, offer));
         let mut after = before.clone();
-        accept(&mut after, &setting.offered);
+        // An offer can be dear to make, and need not be made where it is all that is measured.
+        if setting.calls.iter().any(|&call| call != Call::Offer) {
+            accept(&mut after, &setting.offered);
+        }
         let mut plan = vec![0; PLAN_WORDS];
         let count = after.clone().beacon(&mut plan);
         Prepared { setting: setting.clone(), before, after, plan, count }
@@ -130,8 +133,10 @@ pub fn subjects(setting: &Setting) -> Vec<Box<dyn Subject>> {
     let mut all: Vec<Box<dyn Subject>> = Vec::new();
     #[cfg(feature = "ours")]
     all.push(Box::new(Prepared::<Ours>::new(setting)));
-    all.push(Box::new(Prepared::<Second>::new(setting)));
-    if setting.arrays {
+    if setting.peers != Peers::Nobody {
+        all.push(Box::new(Prepared::<Second>::new(setting)));
+    }
+    if setting.peers == Peers::Both {
         all.push(Box::new(Prepared::<Eaciar>::new(setting)));
     }
     all
