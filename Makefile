@@ -1,7 +1,7 @@
 # The commands of the README.
 SHELL := /bin/bash
 .SHELLFLAGS := -o pipefail -c
-.PHONY: show test reference compared bindings fuzz lists cost picture
+.PHONY: show test reference compared archive bindings bench fuzz lists cost picture
 
 # Prove what the program rests on (quickly, where nothing has changed), and run it on a school's day.
 show:
@@ -17,6 +17,7 @@ test: reference compared
 reference:
 	@cargo test --offline --release --quiet --manifest-path reference/Cargo.toml
 	@cargo test --offline --release --quiet --manifest-path compare/Cargo.toml
+	@cargo test --offline --release --quiet --manifest-path bench/Cargo.toml
 	@cargo test --offline --release --quiet --manifest-path picture/Cargo.toml
 
 # The rows that rt ci holds the program to are those of the second implementation, on its stored lists.
@@ -45,13 +46,21 @@ fuzz:
 	@rt check shelf > /dev/null
 	@cargo run --offline --release --quiet --manifest-path compare/Cargo.toml -- target/bin/shelf $(ROWS) $(SEED)
 
-# The exported calls: case 1 from C, held to its stored rows, and random calls from Rust, held to the second implementation.
-bindings:
+# The proved calls as a library for other languages.
+archive:
 	@mkdir -p target
 	@rt staticlib host > target/staticlib.log || (cat target/staticlib.log && false)
+
+# The exported calls: case 1 from C, held to its stored rows, and random calls from Rust, held to the second implementation.
+bindings: archive
 	@cc -std=c11 -Wall -Wextra -Werror -O2 -Ibindings/c -o target/case1 bindings/c/case1.c target/staticlib/libhost.a
 	@target/case1 | diff bindings/c/case1.out -
 	@cargo test --offline --release --quiet --manifest-path bindings/rust/Cargo.toml
+
+# The calls measured beside the second implementation and the published procedure: the tables of docs/PERFORMANCE.md, and its plots anew.
+# Takes about three minutes (valgrind's callgrind).
+bench: archive
+	@cargo run --offline --release --quiet --manifest-path bench/Cargo.toml --features ours -- all docs
 
 # Instructions that four beacons on the same 32 requests cost, first at 15 time units, then at 1,000 (valgrind's callgrind).
 cost:
