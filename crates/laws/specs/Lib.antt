@@ -4,6 +4,7 @@ pub mod Settled
 pub mod Sources
 pub mod Grants
 pub mod Order
+pub mod Ranks
 pub mod Turns
 pub mod Extras
 pub mod Refusals

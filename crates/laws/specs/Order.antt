@@ -20,7 +20,7 @@ use Rattle.rules.specs.WellFormed.{Once}
 use Rattle.laws.specs.Grants.{once-tail, once-apart, once-keep}
 
 -- e comes before f
-data Before (e f : Entry) : Type 0 where
+pub data Before (e f : Entry) : Type 0 where
   byLeft : e .left .0 < f .left .0 → Before e f
   byKind : e .left .0 ≡ f .left .0 → e .kind < f .kind → Before e f
   byStream : e .left .0 ≡ f .left .0 → e .kind ≡ f .kind → e .stream < f .stream → Before e f
@@ -36,7 +36,7 @@ module _ (e f : Entry) where
   abbrev tied : Bool
   tied = eqb (e .kind) (f .kind) && ltb (e .stream) (f .stream)
 
-  before-sooner : Before e f → sooner e f ≡ true
+  pub before-sooner : Before e f → sooner e f ≡ true
   before-sooner (byLeft h) = ap (λ b. b || (eqb (e .left .0) (f .left .0) && (lessKind || tied))) (lt-ltb _ _ h)
   before-sooner (byKind l h) =
       or-right lessLeft (eqb (e .left .0) (f .left .0) && (lessKind || tied))
@@ -46,7 +46,7 @@ module _ (e f : Entry) where
       (both-and (eqb (e .left .0) (f .left .0)) (lessKind || tied) (eq-eqb _ _ l)
       (or-right lessKind tied (both-and (eqb (e .kind) (f .kind)) (ltb (e .stream) (f .stream)) (eq-eqb _ _ k) (lt-ltb _ _ h))))
 
-  sooner-before : sooner e f ≡ true → Before e f
+  pub sooner-before : sooner e f ≡ true → Before e f
   sooner-before h = ⊎-elim (λ q. byLeft (ltb-true _ _ q)) even (or-true lessLeft (eqb (e .left .0) (f .left .0) && (lessKind || tied)) h)
     where
       even : (eqb (e .left .0) (f .left .0) && (lessKind || tied)) ≡ true → Before e f
