@@ -41,9 +41,12 @@ afterGrant g e = after (g .piece .0) (g .extra .0) e
 abbrev pub pieceOnly : (c : ℕ) → List Entry → Entry → Granted
 pieceOnly c ps e = granted (takes c ps e) 0
 
--- e misses its deadline, beside the entries ps and the capacity c
+-- e misses its deadline with a piece of n slots; and beside the entries ps, with the capacity c
+abbrev pub missesWith : (n : ℕ) → Entry → Bool
+missesWith n e = isPiece e && (eqb (e .left .0) 1 && ltb n (e .owed .0))
+
 abbrev pub missesBy : (c : ℕ) → List Entry → Entry → Bool
-missesBy c ps e = isPiece e && (eqb (e .left .0) 1 && ltb (takes c ps e) (e .owed .0))
+missesBy c ps e = missesWith (takes c ps e) e
 
 module _ (t : Table) (w : Tidy t) where
   abbrev B : ℕ

@@ -2,13 +2,14 @@
 // and the table after it.
 ghost use mathlib.Core.Path.{_≡_};
 ghost use Rattle.lists.specs.Lists.{anyOf};
-ghost use Rattle.rules.specs.Share.{capacity as capacityOf, stepB};
+ghost use Rattle.rules.specs.Share.{stepB};
 ghost use Rattle.rules.specs.Ahead.{passed, renewed, settled, misses};
 ghost use Rattle.rules.specs.Calls.{heldOf, advanced};
 ghost use Rattle.laws.specs.Places.{Tidy};
 ghost use Rattle.ahead.specs.Loop.{lookedPast};
-ghost use Rattle.share.specs.Shares.{sharingOf};
-ghost use Rattle.advance.specs.Next.{WithinAmounts, afterGrant, missesBy};
+ghost use Rattle.share.specs.Queues.{Used};
+ghost use Rattle.share.specs.Shares.{piecesIn, sharesOf};
+ghost use Rattle.advance.specs.Next.{WithinAmounts, afterGrant, missesWith};
 
 pub mod places; // places.rt: which streams a table holds, and a place taken or given back
 
@@ -16,7 +17,7 @@ use model::Entry;
 use model::Slots;
 use model::Table;
 use share::Granted;
-use share::Sharing;
+use share::Shares;
 
 // ---- one entry
 // Owed falls by its piece, given grows by its piece and its extra, life and intervals left fall by one; kind 1 has a life alone.
@@ -83,31 +84,30 @@ fn after_grant(e: Entry, g: Granted) -> Entry
 }
 
 // Whether an entry's deadline is the end of this interval, and its piece is less than what it is owed.
-fn misses_deadline(t: Table, capacity: Slots, e: Entry) -> bool
-    ensures { λ r. ⌜ r ≡ missesBy (capacity .0) (t .entries) e ⌝ }
+fn misses_deadline(e: Entry, piece: u32) -> bool
+    ensures { λ r. ⌜ r ≡ missesWith piece e ⌝ }
 {
     let left = e.left.0;
     if left != 1 {
         return false;
     }
     if share::is_piece(e) {
-        let got = share::piece_slots(t, capacity, e);
-        return got.0 < e.owed.0;
+        return piece < e.owed.0;
     }
     false
 }
 
 // ---- a table
-// Each entry is read from the table as it was: what one gets depends on what the others are owed.
-pub fn advance(t: Table, s: Sharing) -> Table
-    requires { ⌜ Tidy t ⌝ }
-    requires { ⌜ s ≡ sharingOf t ⌝ }
+// The loops stop after the last place that is held: a free place stays free and misses nothing.
+pub fn advance(t: Table, used: usize, s: Shares) -> Table
+    requires { ⌜ Tidy t × Used used t ⌝ }
+    requires { ⌜ s ≡ sharesOf t ⌝ }
     ensures { λ r. ⌜ r ≡ advanced t ⌝ }
 {
     let mut next = t;
-    for i in 0..32 {
+    for i in 0..used {
         let e = t.entries[i];
-        let g = share::grant(t, s, e);
+        let g = share::grant_at(s, i);
         let n = after_grant(e, g);
         next.entries[i] = n;
     }
@@ -115,17 +115,16 @@ pub fn advance(t: Table, s: Sharing) -> Table
 }
 
 // Looking ahead gives no extras.
-pub fn advance_without_extras(t: Table, capacity: Slots) -> Table
-    requires { ⌜ Tidy t ⌝ }
-    requires { ⌜ capacity .0 ≡ capacityOf (t .interval .0) (heldOf t) ⌝ }
+pub fn advance_without_extras(t: Table, used: usize, pieces: [u32; 32]) -> Table
+    requires { ⌜ Tidy t × Used used t ⌝ }
+    requires { ⌜ pieces ≡ piecesIn t ⌝ }
     ensures { λ r. ⌜ r ≡ lookedPast t ⌝ }
 {
     let mut next = t;
-    for i in 0..32 {
+    for i in 0..used {
         let e = t.entries[i];
-        let piece = share::piece_slots(t, capacity, e);
         let g = Granted {
-            piece,
+            piece: Slots(pieces[i]),
             extra: Slots(0),
         };
         let n = after_grant(e, g);
@@ -134,14 +133,14 @@ pub fn advance_without_extras(t: Table, capacity: Slots) -> Table
     next
 }
 
-pub fn misses(t: Table, capacity: Slots) -> bool
-    requires { ⌜ Tidy t ⌝ }
-    requires { ⌜ capacity .0 ≡ capacityOf (t .interval .0) (heldOf t) ⌝ }
+pub fn misses(t: Table, used: usize, pieces: [u32; 32]) -> bool
+    requires { ⌜ Tidy t × Used used t ⌝ }
+    requires { ⌜ pieces ≡ piecesIn t ⌝ }
     ensures { λ r. ⌜ r ≡ anyOf (misses (stepB (t .interval .0) (heldOf t))) (heldOf t) ⌝ }
 {
-    for i in 0..32 {
+    for i in 0..used {
         let e = t.entries[i];
-        if misses_deadline(t, capacity, e) {
+        if misses_deadline(e, pieces[i]) {
             return true;
         }
     }

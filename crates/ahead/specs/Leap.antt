@@ -69,7 +69,7 @@ module _ {B : ℕ} {e : Entry} (b : ℕ) (k : b ≤ e .owed .0) (q : 1 < eventIn
   after-later : Held B e → after b 0 e ≡ later 1 b e
   after-later h = ⊎-elim fraction-later piece-later (held-kinds h)
 
-later-free : (n c : ℕ) (ps : List Entry) → later n (takes c ps freeEntry) freeEntry ≡ freeEntry
+pub later-free : (n c : ℕ) (ps : List Entry) → later n (takes c ps freeEntry) freeEntry ≡ freeEntry
 later-free n c ps =
     let z = takes-owed c ps freeEntry in
     standing-same freeEntry (omega arith) (omega arith) (omega arith) (omega arith)

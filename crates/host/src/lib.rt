@@ -197,9 +197,14 @@ pub extern "C" fn gelmush_window(
         × (r .words ≡ length (windowPart ws count from until))
         × (now (answer .exit) ≡ windowAnswer ws count from until) ⌝ }
 {
-    let earlier = window::window(plan, count, 0, from, answer);
-    let first = earlier.len();
-    let part = window::window(plan, count, from, until, answer);
-    let words = part.len();
+    let b = window::bounds_of(plan, count, from, until);
+    *answer = b.answer;
+    let mut first = 4 * b.first;
+    // The window of all earlier slots is looked at only where it may be given while this one is refused.
+    if until < from {
+        let earlier = window::bounds_of(plan, count, 0, from);
+        first = 4 * earlier.end;
+    }
+    let words = 4 * (b.end - b.first);
     Place { first, words }
 }

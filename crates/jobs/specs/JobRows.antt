@@ -1,10 +1,11 @@
 -- The rows of a table's entries in the tie order have the table's jobs, and beside them jobs that need nothing: so their plan is the
 -- table's. Assumes nothing.
-use mathlib.Core.Path.{_≡_, refl, sym, ap, subst, subst₂}
+use mathlib.Core.Path.{_≡_, refl, sym, ap, subst, _∙_}
 use mathlib.Core.List.{List, [], _∷_, _++_, map}
 use Prim.Native.Nat.{ℕ, zero, suc, _-_, _≤_}
 use native.Mathlib.Omega.{arith}
-use lib.ListN.{length, replicate}
+use lib.ListN.{length, drop, replicate, length-append}
+use lib.Seq.{take-append-seam}
 use Rattle.lists.specs.Lists.{sumOf, concatMap}
 use Rattle.lists.specs.All.{All, stop, and, all-map, all-of-map}
 use Rattle.lists.specs.Sums.{sum-keep-le}
@@ -18,14 +19,20 @@ use Rattle.laws.specs.Places.{Tidy, tidy-held}
 use Rattle.laws.specs.Closed.{slots-most}
 use Rattle.ahead.specs.Tables.{tidy-together}
 use Rattle.interval.specs.Jobs.{tie-sum, all-tie, jobs-keys}
+use Rattle.laws.specs.Ranks.{rank}
+use Rattle.share.specs.Queues.{Used}
 use Rattle.share.specs.Shares.{sharingOf, grantOf, grants-right}
 use Rattle.share.specs.declared.Sharing.{Sharing}
 use Rattle.order.specs.Filled.{filled, filled-behind, filled-all}
-use Rattle.plan.specs.Rows.{rowFrom, rowJobs, rowPlan, Rows}
+use Rattle.order.specs.Listed.{listed, orderOf}
+use Rattle.order.specs.TiePlaces.{listed-ties, listed-places, listed-length}
+use Rattle.order.specs.declared.Order.{Order}
+use Rattle.plan.specs.Rows.{rowFrom, rowJobs, rowPlan, Rows, Spare}
 use Rattle.plan.specs.RowLaws.{row-skipped, plan-skipped}
 use Rattle.plan.specs.Skipped.{Skipped, over, skipped-append, skipped-names}
-use Rattle.jobs.specs.Needs.{needBy, needsRow, rowBy, Narrow}
-use Rattle.jobs.specs.Limits.{narrow-free, narrow-held, free-none, length-free, length-held}
+use Rattle.jobs.specs.Needs.{needBy, needsRow, rowBy}
+use Rattle.jobs.specs.Limits.{free-none, length-free, length-held}
+use Rattle.jobs.specs.Listing.{Listed, entryAt, rowsIn, rows-spare}
 
 module _ (B : ℕ) (s : Sharing) (ps : List Entry) where
   abbrev rowsOf : List Entry → List Job
@@ -62,9 +69,6 @@ module _ (t : Table) (w : Tidy t) where
 
   abbrev sh : Sharing
   sh = sharingOf t
-
-  narrow-all : All (Narrow sh (t .entries)) os
-  narrow-all = filled-all (Narrow sh (t .entries)) (narrow-free t w) (all-tie (tidy-held w) (narrow-held t w))
 
   -- all entries have a place
   length-sum : {A : Type 0} (xs : List A) → length xs ≡ sumOf (λ x. 1) xs
@@ -104,11 +108,41 @@ module _ (t : Table) (w : Tidy t) where
   rows-plan = plan-skipped B _ _ _ table-skipped
 
 -- ---- rows that a program has made
-module _ (t : Table) (w : Tidy t) {s : Sharing} {os : List Entry} (e : s ≡ sharingOf t) (o : os ≡ filled (tieOrder (heldOf t))) where
-  pub narrow-made : All (Narrow s (t .entries)) os
-  narrow-made = subst₂ (λ x l. All (Narrow x (t .entries)) l) (sym e) (sym o) (narrow-all t w)
+module _ (t : Table) (w : Tidy t) {n : ℕ} (u : Used n t) {o : Order} (e : o ≡ orderOf (map rank (t .entries)) n) where
+  abbrev ps : List ℕ
+  ps = listed (map rank (t .entries)) n
 
-  pub plan-made : {ss Ts : List ℕ} {nss : List (List ℕ)} → ss ≡ map (λ (f : Entry). f .stream) os
-      → Ts ≡ map (jobLength (t .interval .0)) os → nss ≡ map (rowBy s (t .entries)) os
-      → Rows (t .interval .0) ss Ts nss × (rowPlan (t .interval .0) ss Ts nss ≡ planOf t)
-  plan-made a b d = rw (a, b, d, e, o) (rows-fit t w, rows-plan t w)
+  few : length ps ≤ places
+  few = omega (arith, listed-length t w n (u .0) (u .1), tie-few t w)
+
+  -- the places of the order are those listed
+  pub order-listed : Listed o
+  order-listed =
+      rw e
+      (record {
+        few = few;
+        room = omega (arith, length-append ps (replicate (32 - length ps) 0));
+        each = rw (take-append-seam ps (replicate (32 - length ps) 0)) (listed-places t w n (u .0) (u .1));
+      })
+
+  rows-tied : rowsIn t o ≡ filled (tieOrder (heldOf t))
+  rows-tied =
+      ap (rowsIn t) e
+      ∙ ap (λ l. filled (map (entryAt t) l)) (take-append-seam ps (replicate (32 - length ps) 0))
+      ∙ ap filled (listed-ties t w n (u .0) (u .1))
+
+  module _ {ss Ts : List ℕ} {nss : List (List ℕ)} (a : ss ≡ map (λ (f : Entry). f .stream) (rowsIn t o))
+      (b : Ts ≡ map (jobLength (t .interval .0)) (rowsIn t o)) (d : nss ≡ map (rowBy (sharingOf t) (t .entries)) (rowsIn t o)) where
+    pub plan-made : Rows (t .interval .0) ss Ts nss × (rowPlan (t .interval .0) ss Ts nss ≡ planOf t)
+    plan-made = rw (a, b, d, rows-tied) (rows-fit t w, rows-plan t w)
+
+    pub spare-made : (o .count ≤ 32) × Spare (t .interval .0) (o .count) Ts nss
+    spare-made = (
+      order-listed .few,
+      rw (b, d)
+          (record {
+            lengths = rows-spare t o order-listed (jobLength (t .interval .0));
+            needs = subst (λ r. All (λ ns. ns ≡ r) (drop (o .count) (map (rowBy (sharingOf t) (t .entries)) (rowsIn t o))))
+                (ap (needsRow 1) (free-none t w)) (rows-spare t o order-listed (rowBy (sharingOf t) (t .entries)));
+          }),
+    )

@@ -47,7 +47,7 @@ module _ (t : Table) (w : Tidy t) where
   pub free-none : needBy (grantOf sh (t .entries) freeEntry) freeEntry ≡ 0
   free-none = omega (arith, more-le freeEntry, takes-owed (capacity B (heldOf t)) (t .entries) freeEntry)
 
-  pub narrow-free : Narrow sh (t .entries) freeEntry
+  narrow-free : Narrow sh (t .entries) freeEntry
   narrow-free = record { few = omega arith; small = omega (arith, free-none) }
 
   -- m parts are the whole, so one is at most the whole
@@ -62,8 +62,8 @@ module _ (t : Table) (w : Tidy t) where
   count-by : (e : Entry) {b : Bool} → isKind 1 e ≡ b → jobCount e ≡ cond b (e .parts) 1
   count-by e q = ap (λ b. cond b (e .parts) 1) q
 
-  at-places : All (Narrow sh (t .entries)) (t .entries)
-  at-places = by-kind t w (Narrow sh (t .entries)) narrow-free fraction whole transfer
+  pub narrow-places : All (Narrow sh (t .entries)) (t .entries)
+  narrow-places = by-kind t w (Narrow sh (t .entries)) narrow-free fraction whole transfer
     where
       fraction : (e : Entry) → Fraction B e → Narrow sh (t .entries) e
       fraction e f =
@@ -107,9 +107,6 @@ module _ (t : Table) (w : Tidy t) where
             few = omega (arith, count-by e q);
             small = omega (arith, need-by e q, piece-le e, more-le e, headroom-transfer e (piece e) k, slots-most t w);
           }
-
-  pub narrow-held : All (Narrow sh (t .entries)) (heldOf t)
-  narrow-held = all-keep isHeld (λ e q n. n) at-places
 
   -- ---- lengths
   some-slots : 1 ≤ B

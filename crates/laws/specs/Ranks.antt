@@ -30,6 +30,18 @@ held-ranked h =
       | inr p ↦ record { kind = elim (p .kind) [ inl k ↦ omega arith | inr k ↦ omega arith ]; stream = p .stream-most }
     ]
 
+-- the largest: 65,535 intervals left, kind 3, stream 65,535
+abbrev pub rankMost : ℕ
+rankMost = 17179869183
+
+pub held-rank : {B : ℕ} {e : Entry} → Held B e → rank e ≤ rankMost
+held-rank h =
+    let r = held-ranked h in
+    elim (held-kinds h) [
+      | inl f ↦ omega (arith, r .kind, r .stream, f .left)
+      | inr p ↦ omega (arith, r .kind, r .stream, p .short, p .period-most)
+    ]
+
 module _ {e f : Entry} (p : Ranked e) (q : Ranked f) where
   before-rank : Before e f → rank e < rank f
   before-rank (byLeft x) = omega (arith, p .kind, p .stream)

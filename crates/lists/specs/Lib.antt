@@ -6,3 +6,4 @@ pub mod Most
 pub mod Picked
 pub mod Sorted
 pub mod Loops
+pub mod Spare

@@ -25,6 +25,19 @@ module _ {A : Type 0} (xs : List A) (i : ℕ) (d : A) (h : i < length xs) where
   pub set-next : (x : A) → set xs i x ≡ take i xs ++ x ∷ drop (i + 1) xs
   set-next x = rw add-one (set-split xs i x h)
 
+-- the element of a map
+pub map-at : {A B : Type 0} (f : A → B) (xs : List A) (i : ℕ) (d : A) (e : B) → i < length xs → getD (map f xs) i e ≡ f (getD xs i d)
+map-at f [] i d e h = absurd (not-suc-le-zero h)
+map-at f (x ∷ xs) zero d e h = refl
+map-at f (x ∷ xs) (suc i) d e h = map-at f xs i d e (le-of-suc-le-suc h)
+
+-- two maps of the same elements, and what is made of each and its element
+pub map-with : {A B C : Type 0} (h : B → A → C) (f g : A → B) (xs : List A) → map f xs ≡ map g xs
+    → map (λ x. h (f x) x) xs ≡ map (λ x. h (g x) x) xs
+map-with h f g [] e = refl
+map-with h f g (x ∷ xs) e =
+    ap₂ (λ y l. y ∷ l) (ap (λ b. h b x) (ap (λ l. getD l 0 (f x)) e)) (map-with h f g xs (ap (drop 1) e))
+
 -- ---- a loop that replaces each element
 module _ {A : Type 0} (f : A → A) where
   -- the first i replaced, the others as they were

@@ -75,11 +75,13 @@ fn skip(t: Table, n: u32, slots: Slots) -> Table
     requires { ⌜ Tidy t ⌝ }
     ensures { λ r. ⌜ r ≡ withEntries t (served n (slots .0) (t .entries)) ⌝ }
 {
+    let q = share::queue_of(t);
+    let used = q.used;
+    let pieces = share::pieces(q, slots);
     let mut next = t;
-    for i in 0..32 {
+    for i in 0..used {
         let e = t.entries[i];
-        let piece = share::piece_slots(t, slots, e);
-        let f = later(e, n, piece);
+        let f = later(e, n, Slots(pieces[i]));
         next.entries[i] = f;
     }
     next

@@ -41,10 +41,13 @@ pub fn fits_ahead(t: Table) -> bool
         }
         let capacity = share::capacity(now);
         let there = leap::leapt(now, capacity);
-        if advance::misses(there, capacity) {
+        let q = share::queue_of(there);
+        let used = q.used;
+        let pieces = share::pieces(q, capacity);
+        if advance::misses(there, used, pieces) {
             return false;
         }
-        let next = advance::advance_without_extras(there, capacity);
+        let next = advance::advance_without_extras(there, used, pieces);
         now = next;
     }
     true

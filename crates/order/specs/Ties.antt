@@ -1,20 +1,23 @@
 -- The tie rules as one order: sorting by it gives document 01's order, kind 1 by stream number and then the pieces by the order of
--- step B. Assumes nothing.
-use mathlib.Core.Path.{_≡_, refl, ap, _∙_}
+-- step B. Among held entries it is the order of their ranks. Assumes nothing.
+use mathlib.Core.Path.{_≡_, refl, sym, ap, _∙_}
 use mathlib.Core.Logic.{_⊎_, inl, inr, ⊎-elim}
 use mathlib.Core.Bool.{Bool, true, false, cond}
 use mathlib.Core.List.{List, _∷_, _++_}
-use Prim.Native.Nat.{ℕ}
+use Prim.Native.Nat.{ℕ, _<_}
+use native.Mathlib.Omega.{arith}
+use lib.Dec.{eqb, leb, ltb}
+use borrow.Author.Tests.{ltb-true, leb-true, eqb-false, lt-ltb, le-ltb, le-leb, eq-eqb}
 use Rattle.lists.specs.Lists.{cons-if, keep, insert, sort}
-use Rattle.lists.specs.Tests.{clash}
+use Rattle.lists.specs.Tests.{clash, same-test}
 use Rattle.lists.specs.All.{All, stop, and, all-keep, all-sort}
-use borrow.Author.Tests.{eq-eqb}
 use Rattle.model.specs.Entries.{isKind, isPiece}
 use Rattle.model.specs.declared.Entry.{Entry}
 use Rattle.rules.specs.Share.{sooner, order}
 use Rattle.rules.specs.Slots.{lower, tieOrder}
 use Rattle.rules.specs.WellFormed.{Held}
 use Rattle.laws.specs.Held.{Fraction, Piece, held-kinds, piece-of, not-fraction, fraction-not}
+use Rattle.laws.specs.Ranks.{rank, held-ranked, rank-sooner}
 
 abbrev pub ties : Entry → Entry → Bool
 ties e f = cond (isKind 1 e) (cond (isKind 1 f) (lower e f) true) (cond (isKind 1 f) false (sooner e f))
@@ -66,3 +69,38 @@ sort-ties {B} (and {x = e} {xs = es} h r) = ap (insert ties e) (sort-ties r) ∙
         ≡ sort lower (cons-if (isKind 1 e) e (keep (isKind 1) es)) ++ sort sooner (cons-if (isPiece e) e (keep isPiece es))
     go (inl f) = rw (eq-eqb (e .kind) 1 (f .kind), fraction-not e (f .kind)) (insert-first e (eq-eqb (e .kind) 1 (f .kind)) firsts laters)
     go (inr p) = rw (not-fraction e (p .kind), piece-of e (p .kind)) (insert-later e (not-fraction e (p .kind)) firsts laters)
+
+-- ---- held entries, by rank
+module _ {B : ℕ} {e f : Entry} where
+  firsts-rank : Fraction B e → Fraction B f → lower e f ≡ ltb (rank e) (rank f)
+  firsts-rank p q =
+      same-test (lower e f) (ltb (rank e) (rank f))
+      (λ l. lt-ltb (rank e) (rank f) (omega (arith, ltb-true (e .stream) (f .stream) l, p .left, q .left, p .kind, q .kind)))
+      (λ l. lt-ltb (e .stream) (f .stream) (omega (arith, ltb-true (rank e) (rank f) l, p .left, q .left, p .kind, q .kind)))
+
+  -- kind 1 has no intervals left, and so a rank below that of each piece
+  first-below : Fraction B e → Piece B f → rank e < rank f
+  first-below p q = omega (arith, p .left, p .kind, p .stream-most, q .ahead)
+
+pub ties-rank : {B : ℕ} {e f : Entry} → Held B e → Held B f → ties e f ≡ ltb (rank e) (rank f)
+ties-rank {B} {e} {f} h k = go (held-kinds h) (held-kinds k)
+  where
+    go : Fraction B e ⊎ Piece B e → Fraction B f ⊎ Piece B f → ties e f ≡ ltb (rank e) (rank f)
+    go (inl p) (inl q) = rw (eq-eqb (e .kind) 1 (p .kind), eq-eqb (f .kind) 1 (q .kind)) (firsts-rank p q)
+    go (inl p) (inr q) =
+        rw (eq-eqb (e .kind) 1 (p .kind), not-fraction f (q .kind)) (sym (lt-ltb (rank e) (rank f) (first-below p q)))
+    go (inr p) (inl q) =
+        rw (not-fraction e (p .kind), eq-eqb (f .kind) 1 (q .kind))
+        (sym (le-ltb (rank e) (rank f) (omega (arith, first-below q p))))
+    go (inr p) (inr q) = rw (not-fraction e (p .kind), not-fraction f (q .kind)) (rank-sooner (held-ranked h) (held-ranked k))
+
+-- entries of different streams have different ranks
+pub ties-le : {B : ℕ} {e f : Entry} → Held B e → Held B f → eqb (e .stream) (f .stream) ≡ false → leb (rank e) (rank f) ≡ ties e f
+ties-le {e = e} {f = f} h k n =
+    let d = eqb-false (e .stream) (f .stream) n in
+    let p = held-ranked h in
+    let q = held-ranked k in
+    same-test (leb (rank e) (rank f)) (ltb (rank e) (rank f))
+    (λ l. lt-ltb (rank e) (rank f) (omega (arith, leb-true (rank e) (rank f) l, p .kind, q .kind, p .stream, q .stream, d)))
+    (λ l. le-leb (rank e) (rank f) (omega (arith, ltb-true (rank e) (rank f) l)))
+    ∙ sym (ties-rank h k)

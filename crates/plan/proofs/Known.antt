@@ -1,19 +1,13 @@
--- What a function knows of an array that it was passed: how many elements it has, and how many each of its rows has. Assumes nothing.
-use mathlib.Core.Path.{_≡_}
+-- What a function knows of an array of rows that it was passed: how many elements each of them has. Assumes nothing.
 use mathlib.Core.List.{List, [], _∷_}
 use Prim.Native.Nat.{ℕ}
-use lib.ListN.{length}
 use mir.Val.{Val}
 use denote.Laws.{Is}
 use denote.Shadow.{shadow}
 use denote.Array.{Array, each}
-use denote.RattleType.{RattleType}
 use denote.Builtin.{u32}
 use Rattle.lists.specs.All.{stop, and}
 use Rattle.plan.specs.RowLaws.{Wide}
-
-pub sized : (R : RattleType) (n : ℕ) (a : List (R .Denot)) (vs : List Val) → Is (Array R n) a vs → length a ≡ n
-sized R n a vs p = p .1 .0 .1
 
 each-wide : (a : List (List ℕ)) (us : List Val) → shadow (each (List ℕ) (Array u32 16 .own) a us) → Wide a
 each-wide [] us s = stop

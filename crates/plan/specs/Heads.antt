@@ -9,11 +9,11 @@ use native.Mathlib.Nat.{add-zero, suc-add, add-suc, mul-le-mul-right}
 use native.Mathlib.Numerals.{add-one}
 use native.Mathlib.Omega.{arith}
 use lib.Dec.{leb, ltb, leb·suc-suc}
-use lib.ListN.{length, getD, set, drop, drop-of-length-le, List·getD-map}
+use lib.ListN.{length, getD, set, drop, replicate, drop-of-length-le, List·getD-map}
 use lib.Seq.{drop-cons}
 use borrow.Author.Tests.{lt-ltb, le-ltb, le-leb, leb-false}
 use Rattle.lists.specs.Tests.{and-false, and-true}
-use Rattle.lists.specs.All.{All}
+use Rattle.lists.specs.All.{All, stop, all-map, all-of-map}
 use Rattle.lists.specs.Picked.{picked-one}
 use Rattle.rules.specs.Slots.{Job, jobAt, dueFirst, choose}
 use Rattle.service.specs.Choice.{Choice, takes, chooses, ready-both}
@@ -87,6 +87,17 @@ module _ (ns : List ℕ) (j : ℕ) where
   unfolding firstLeft
   left-none h = rw (drop-of-length-le ns h) (omega arith)
 
+-- ---- a row whose first unfinished job still needs something
+pub left-stays : (ns : List ℕ) (v : ℕ) → 1 ≤ v → firstLeft (set ns (firstLeft ns) v) ≡ firstLeft ns
+unfolding firstLeft
+left-stays [] v h = refl
+left-stays (n ∷ ns) v h = go (ltb 0 n) refl (left-stays ns v h)
+  where
+    go : (b : Bool) → ltb 0 n ≡ b → firstLeft (set ns (firstLeft ns) v) ≡ firstLeft ns
+        → firstLeft (set (n ∷ ns) (cond b 0 (suc (firstLeft ns))) v) ≡ cond b 0 (suc (firstLeft ns))
+    go true e w = rw (lt-ltb 0 v h)
+    go false e w = rw e (ap suc w)
+
 -- ---- of every row
 -- one of them
 pub head-at : (nss : List (List ℕ)) (i : ℕ) → getD (map firstLeft nss) i 0 ≡ firstLeft (getD nss i [])
@@ -98,3 +109,11 @@ pub heads-set : (nss : List (List ℕ)) (i : ℕ) (ns : List ℕ) → map firstL
 heads-set [] i ns = refl
 heads-set (x ∷ nss) zero ns = refl
 heads-set (x ∷ nss) (suc i) ns = ap (λ l. firstLeft x ∷ l) (heads-set nss i ns)
+
+-- a row that needs nothing has none
+pub heads-spare : (rows : ℕ) (nss : List (List ℕ)) → All (λ ns. ns ≡ replicate 16 0) (drop rows nss)
+    → All (λ h. h ≡ 16) (drop rows (map firstLeft nss))
+unfolding firstLeft
+heads-spare zero nss q = all-of-map firstLeft (all-map (λ ns e. ap firstLeft e) q)
+heads-spare (suc r) [] q = stop
+heads-spare (suc r) (ns ∷ nss) q = heads-spare r nss q

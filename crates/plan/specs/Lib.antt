@@ -3,6 +3,7 @@ pub mod Skipped
 pub mod RowLaws
 pub mod Heads
 pub mod Places
+pub mod Kept
 pub mod Next
 pub mod Turns
 pub mod Pens

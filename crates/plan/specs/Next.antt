@@ -1,13 +1,13 @@
 -- The next release: no job is released between t and it; it is ahead, and at most the end of the interval. Assumes nothing.
-use mathlib.Core.Path.{_≡_, refl, _∙_}
+use mathlib.Core.Path.{_≡_, refl, ap, _∙_}
 use mathlib.Core.Logic.{_⊎_, inl, inr}
 use mathlib.Core.List.{List, [], _∷_}
 use Prim.Native.Nat.{ℕ, _+_, _*_, _/_, _≤_, _<_, min}
-use native.Mathlib.Nat.{le-trans, add-mul, one-mul, mul-le-mul-right, lt-div-mul-add, div-mul-le-self, div-eq-of-lt-le}
+use native.Mathlib.Nat.{le-trans, add-mul, one-mul, mul-le-mul-right, lt-div-mul-add, div-mul-le-self, div-eq-of-lt, div-eq-of-lt-le}
 use native.Mathlib.Decide.{decLe}
 use native.Mathlib.Numerals.{add-one}
 use native.Mathlib.Omega.{arith}
-use lib.ListN.{length, getD, drop, drop-of-length-le}
+use lib.ListN.{length, getD, drop}
 use lib.Seq.{drop-cons}
 use Rattle.lists.specs.All.{All, stop, and, all-map}
 use Rattle.rules.specs.Slots.{jobAt}
@@ -82,6 +82,13 @@ pub next-step : (b t i n : ℕ) (Ts : List ℕ) → i < length Ts
 unfolding nextOf
 next-step b t i n Ts h = rw (add-one i, drop-cons Ts i 0 h) (omega arith)
 
-pub next-end : (b t i n : ℕ) (Ts : List ℕ) → length Ts ≤ i → n ≤ b → min n (nextOf b t (drop i Ts)) ≡ n
+-- rows as long as the interval have no release before the end
+next-spare : (b t : ℕ) {Ts : List ℕ} → t < b → All (λ T. T ≡ b) Ts → nextOf b t Ts ≡ b
 unfolding nextOf
-next-end b t i n Ts h k = rw (drop-of-length-le Ts h) (omega arith)
+next-spare b t h stop = refl
+next-spare b t h (and {x = T} e q) =
+    let l : b ≤ after b t = rw (div-eq-of-lt h) (omega arith) in
+    omega (arith, ap (λ U. after U t) e, next-spare b t h q)
+
+pub next-end : (b t i n : ℕ) (Ts : List ℕ) → t < b → All (λ T. T ≡ b) (drop i Ts) → n ≤ b → min n (nextOf b t (drop i Ts)) ≡ n
+next-end b t i n Ts h q k = omega (arith, next-spare b t h q)

@@ -9,10 +9,10 @@ use native.Mathlib.Nat.{add-zero, zero-add, suc-add, add-suc, suc-mul, mul-le-mu
 use native.Mathlib.Numerals.{add-one}
 use native.Mathlib.Omega.{arith}
 use lib.Dec.{leb, ltb}
-use lib.ListN.{length, getD, drop, drop-of-length-le}
+use lib.ListN.{length, getD, drop}
 use lib.Seq.{drop-cons}
 use borrow.Author.Tests.{lt-ltb, le-ltb, le-leb, lt-leb, leb-true, leb-false, ltb-true, ltb-false}
-use Rattle.lists.specs.All.{All, head, tail, all-map}
+use Rattle.lists.specs.All.{All, stop, and, head, tail, all-map}
 use Rattle.rules.specs.Slots.{Job, jobAt, isReady, dueFirst, choose}
 use Rattle.plan.specs.Rows.{rowFrom, rowJobs, Length}
 use Rattle.plan.specs.RowLaws.{Wide, jobIn}
@@ -66,41 +66,53 @@ Short Ts = All (λ (T : ℕ). T ≤ 1024000) Ts
 pub short : {b : ℕ} {Ts : List ℕ} → b ≤ 1024000 → All (Length b) Ts → Short Ts
 short h q = all-map (λ T p. omega arith) q
 
--- when job h of T slots is due, if it is released by t; h is 16 where a row has none left
-unfoldable pub dueBy : (t T h : ℕ) → ℕ
-dueBy t T h = cond (leb 16 h) never (cond (ltb t (h * T)) never (h * T + T))
+-- when job h of T slots is released; h is 16 where a row has none left
+unfoldable pub releaseOf : (T h : ℕ) → ℕ
+releaseOf T h = cond (leb 16 h) never (h * T)
+
+-- of each row
+unfoldable pub releasesOf : (lengths heads : List ℕ) → List ℕ
+releasesOf [] hs = []
+releasesOf (T ∷ Ts) [] = []
+releasesOf (T ∷ Ts) (h ∷ hs) = releaseOf T h ∷ releasesOf Ts hs
+
+-- when a job of T slots that is released at r is due, if that is by t
+abbrev dueBy : (t T r : ℕ) → ℕ
+dueBy t T r = cond (leb r t) (r + T) never
 
 -- of the rows from place i on, the place of the first of those due first; so far it is p, due at d
-unfoldable pub placeFrom : (t i p d : ℕ) (lengths heads : List ℕ) → ℕ
-placeFrom t i p d [] hs = p
+unfoldable pub placeFrom : (t i p d : ℕ) (lengths releases : List ℕ) → ℕ
+placeFrom t i p d [] rs = p
 placeFrom t i p d (T ∷ Ts) [] = p
-placeFrom t i p d (T ∷ Ts) (h ∷ hs) =
-    let x = dueBy t T h in
-    placeFrom t (suc i) (cond (ltb x d) i p) (cond (ltb x d) x d) Ts hs
+placeFrom t i p d (T ∷ Ts) (r ∷ rs) =
+    let x = dueBy t T r in
+    placeFrom t (suc i) (cond (ltb x d) i p) (cond (ltb x d) x d) Ts rs
 
 -- place 32 stands for none
-abbrev pub chosenAt : (t : ℕ) (lengths heads : List ℕ) → ℕ
-chosenAt t Ts hs = placeFrom t 0 32 never Ts hs
+abbrev pub chosenAt : (t : ℕ) (lengths releases : List ℕ) → ℕ
+chosenAt t Ts rs = placeFrom t 0 32 never Ts rs
 
 -- a row's choice, with when it is due
 data Offer (j : Job) : ℕ → Option Job → Type 0 where
   nothing : Offer j never none
   one : j .due < never → Offer j (j .due) (some j)
 
-row-offers : (t s T : ℕ) (ns : List ℕ) → length ns ≡ 16 → T ≤ 1024000
-    → Offer (jobAt s T (getD ns (firstLeft ns) 0) (firstLeft ns)) (dueBy t T (firstLeft ns)) (choose t (rowFrom s T 0 ns))
-unfolding dueBy
-row-offers t s T ns e l =
+row-offers : (t s T : ℕ) (ns : List ℕ) → length ns ≡ 16 → T ≤ 1024000 → t < never
+    → Offer (jobAt s T (getD ns (firstLeft ns) 0) (firstLeft ns)) (dueBy t T (releaseOf T (firstLeft ns))) (choose t (rowFrom s T 0 ns))
+unfolding releaseOf
+row-offers t s T ns e l k =
     rw (row-choice t s T 0 ns, e, zero-add (firstLeft ns))
-    (go (firstLeft ns) (getD ns (firstLeft ns) 0) (leb 16 (firstLeft ns)) refl (ltb t (firstLeft ns * T)) refl)
+    (go (firstLeft ns) (getD ns (firstLeft ns) 0) (leb 16 (firstLeft ns)) refl)
   where
-    go : (h n : ℕ) (a : Bool) → leb 16 h ≡ a → (b : Bool) → ltb t (h * T) ≡ b
-        → Offer (jobAt s T n h) (cond a never (cond b never (h * T + T))) (cond (ltb h 16) (released t s T n h) none)
-    go h n true x b y = rw (le-ltb h 16 (leb-true 16 h x)) nothing
-    go h n false x true y = rw (lt-ltb h 16 (leb-false 16 h x), lt-leb (h * T) t (ltb-true t (h * T) y)) nothing
-    go h n false x false y =
-        let q : suc h ≤ 16 = leb-false 16 h x in
-        rw (lt-ltb h 16 q, le-leb (h * T) t (ltb-false t (h * T) y), ← suc-mul h T) (one (omega (arith, mul-le-mul q l)))
+    here : (h n : ℕ) → h < 16 → (b : Bool)
+        → Offer (jobAt s T n h) (cond b (h * T + T) never) (cond b (some (jobAt s T n h)) none)
+    here h n q true = rw (← suc-mul h T) (one (omega (arith, mul-le-mul q l)))
+    here h n q false = nothing
+
+    go : (h n : ℕ) (a : Bool) → leb 16 h ≡ a
+        → Offer (jobAt s T n h) (dueBy t T (cond a never (h * T))) (cond (ltb h 16) (released t s T n h) none)
+    go h n true x = rw (le-ltb h 16 (leb-true 16 h x), lt-leb never t k) nothing
+    go h n false x = rw (lt-ltb h 16 (leb-false 16 h x)) (here h n (leb-false 16 h x) (leb (h * T) t))
 
 -- the choice so far, which stands at place p and is due at d
 data Best (who : ℕ → Job) : ℕ → ℕ → Option Job → Type 0 where
@@ -133,47 +145,59 @@ headIn ss Ts nss i = jobIn ss Ts nss i (firstLeft (getD nss i []))
 
 -- By the rows: the choice so far against the row's, and on with the others.
 places-choose : (who : ℕ → Job) (t i : ℕ) (ss Ts : List ℕ) (nss : List (List ℕ)) {p d : ℕ} {c : Option Job} → Best who p d c
-    → length ss ≡ length Ts → length nss ≡ length Ts → i + length Ts ≤ 32 → Wide nss → Short Ts
+    → length ss ≡ length Ts → length nss ≡ length Ts → i + length Ts ≤ 32 → Wide nss → Short Ts → t < never
     → ((k : ℕ) → who (i + k) ≡ headIn ss Ts nss k)
-    → heldBy who (placeFrom t i p d Ts (map firstLeft nss)) ≡ sooner c (choose t (rowJobs ss Ts nss))
-unfolding placeFrom rowJobs choose
-places-choose who t i [] [] nss b u v r w l h = best-held b
-places-choose who t i (s ∷ ss) [] nss b u v r w l h = best-held b
-places-choose who t i [] (T ∷ Ts) nss b u v r w l h = absurd (omega arith)
-places-choose who t i (s ∷ ss) (T ∷ Ts) [] b u v r w l h = absurd (omega arith)
-places-choose who t i (s ∷ ss) (T ∷ Ts) (ns ∷ nss) {c = c} b u v r w l h =
+    → heldBy who (placeFrom t i p d Ts (releasesOf Ts (map firstLeft nss))) ≡ sooner c (choose t (rowJobs ss Ts nss))
+unfolding placeFrom releasesOf rowJobs choose
+places-choose who t i [] [] nss b u v r w l f h = best-held b
+places-choose who t i (s ∷ ss) [] nss b u v r w l f h = best-held b
+places-choose who t i [] (T ∷ Ts) nss b u v r w l f h = absurd (omega arith)
+places-choose who t i (s ∷ ss) (T ∷ Ts) [] b u v r w l f h = absurd (omega arith)
+places-choose who t i (s ∷ ss) (T ∷ Ts) (ns ∷ nss) {c = c} b u v r w l f h =
     let e : who i ≡ jobAt s T (getD ns (firstLeft ns) 0) (firstLeft ns) = ap who (sym (add-zero i)) ∙ h 0 in
-    let o : Offer (who i) (dueBy t T (firstLeft ns)) (choose t (rowFrom s T 0 ns)) =
-    subst (λ j. Offer j (dueBy t T (firstLeft ns)) (choose t (rowFrom s T 0 ns))) (sym e) (row-offers t s T ns (head w) (head l)) in
-    places-choose who t (suc i) ss Ts nss (best-more (omega arith) b o) (omega arith) (omega arith) (omega arith) (tail w) (tail l)
+    let x : ℕ = dueBy t T (releaseOf T (firstLeft ns)) in
+    let o : Offer (who i) x (choose t (rowFrom s T 0 ns)) =
+    subst (λ j. Offer j x (choose t (rowFrom s T 0 ns))) (sym e) (row-offers t s T ns (head w) (head l) f) in
+    places-choose who t (suc i) ss Ts nss (best-more (omega arith) b o) (omega arith) (omega arith) (omega arith) (tail w) (tail l) f
     (λ k. ap who (suc-add i k ∙ sym (add-suc i k)) ∙ h (suc k))
     ∙ sym (sooner-sooner c (choose t (rowFrom s T 0 ns)) (choose t (rowJobs ss Ts nss)))
     ∙ ap (sooner c) (sym (choose-append t (rowFrom s T 0 ns) (rowJobs ss Ts nss)))
 
 -- the law: the place chosen holds the chosen job
 pub place-chosen : (t : ℕ) (ss Ts : List ℕ) (nss : List (List ℕ)) → length ss ≡ 32 → length Ts ≡ 32 → length nss ≡ 32 → Wide nss
-    → Short Ts → heldBy (headIn ss Ts nss) (chosenAt t Ts (map firstLeft nss)) ≡ choose t (rowJobs ss Ts nss)
-place-chosen t ss Ts nss u v r w l =
-    places-choose (headIn ss Ts nss) t 0 ss Ts nss nobody (omega arith) (omega arith) (omega arith) w l
+    → Short Ts → t < never
+    → heldBy (headIn ss Ts nss) (chosenAt t Ts (releasesOf Ts (map firstLeft nss))) ≡ choose t (rowJobs ss Ts nss)
+place-chosen t ss Ts nss u v r w l f =
+    places-choose (headIn ss Ts nss) t 0 ss Ts nss nobody (omega arith) (omega arith) (omega arith) w l f
     (λ k. ap (headIn ss Ts nss) (zero-add k))
 
 -- ---- one row at a time, whose job is due at x
-module _ (t i p d x : ℕ) (Ts hs : List ℕ) (h : i < length Ts) (k : i < length hs) (e : dueBy t (getD Ts i 0) (getD hs i 0) ≡ x) where
-  place-step : placeFrom t i p d (drop i Ts) (drop i hs)
-      ≡ placeFrom t (i + 1) (cond (ltb x d) i p) (cond (ltb x d) x d) (drop (i + 1) Ts) (drop (i + 1) hs)
+module _ (t i p d x : ℕ) (Ts rs : List ℕ) (h : i < length Ts) (k : i < length rs) (e : dueBy t (getD Ts i 0) (getD rs i 0) ≡ x) where
+  place-step : placeFrom t i p d (drop i Ts) (drop i rs)
+      ≡ placeFrom t (i + 1) (cond (ltb x d) i p) (cond (ltb x d) x d) (drop (i + 1) Ts) (drop (i + 1) rs)
   unfolding placeFrom
   place-step =
-      rw (add-one i, drop-cons Ts i 0 h, drop-cons hs i 0 k)
-      (ap (λ y. placeFrom t (suc i) (cond (ltb y d) i p) (cond (ltb y d) y d) (drop (suc i) Ts) (drop (suc i) hs)) e)
+      rw (add-one i, drop-cons Ts i 0 h, drop-cons rs i 0 k)
+      (ap (λ y. placeFrom t (suc i) (cond (ltb y d) i p) (cond (ltb y d) y d) (drop (suc i) Ts) (drop (suc i) rs)) e)
 
   pub place-better : x < d
-      → placeFrom t i p d (drop i Ts) (drop i hs) ≡ placeFrom t (i + 1) i x (drop (i + 1) Ts) (drop (i + 1) hs)
+      → placeFrom t i p d (drop i Ts) (drop i rs) ≡ placeFrom t (i + 1) i x (drop (i + 1) Ts) (drop (i + 1) rs)
   place-better q = rw (lt-ltb x d q) at place-step
 
   pub place-kept : d ≤ x
-      → placeFrom t i p d (drop i Ts) (drop i hs) ≡ placeFrom t (i + 1) p d (drop (i + 1) Ts) (drop (i + 1) hs)
+      → placeFrom t i p d (drop i Ts) (drop i rs) ≡ placeFrom t (i + 1) p d (drop (i + 1) Ts) (drop (i + 1) rs)
   place-kept q = rw (le-ltb x d q) at place-step
 
-pub place-end : (t i p d : ℕ) (Ts hs : List ℕ) → length Ts ≤ i → placeFrom t i p d (drop i Ts) (drop i hs) ≡ p
+pub due-soon : (t T r : ℕ) → r ≤ t → dueBy t T r ≡ r + T
+due-soon t T r h = rw (le-leb r t h)
+
+pub due-never : (t T r : ℕ) → t < r → dueBy t T r ≡ never
+due-never t T r h = rw (lt-leb r t h)
+
+-- rows that have no job left change nothing
+pub place-end : (t i p d : ℕ) (Ts : List ℕ) {rs : List ℕ} → t < never → d ≤ never → All (λ r. r ≡ never) rs
+    → placeFrom t i p d Ts rs ≡ p
 unfolding placeFrom
-place-end t i p d Ts hs h = rw (drop-of-length-le Ts h)
+place-end t i p d [] h l q = refl
+place-end t i p d (T ∷ Ts) h l stop = refl
+place-end t i p d (T ∷ Ts) h l (and e q) = rw (e, lt-leb never t h, le-ltb never d l) (place-end t (suc i) p d Ts h l q)

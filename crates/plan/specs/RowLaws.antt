@@ -6,7 +6,7 @@ use Prim.Native.Nat.{ℕ, zero, suc, _+_, _*_, _≤_, _<_, zero-le}
 use native.Mathlib.Nat.{le-refl}
 use native.Mathlib.Omega.{arith}
 use lib.Dec.{ltb}
-use lib.ListN.{length, getD, set, replicate, length-set}
+use lib.ListN.{length, getD, set, drop, replicate, length-set}
 use borrow.Author.Tests.{le-ltb}
 use Rattle.lists.specs.Lists.{keep, sumOf}
 use Rattle.lists.specs.Tests.{one-if-most, one-if-false}
@@ -125,6 +125,25 @@ plan-few {b} {ss} {Ts} {nss} r l w =
       sum-keep-le (toCome 0) unfinished js,
       rows-come ss Ts nss w,
     )
+
+-- ---- rows that need nothing
+needs-none : {nss : List (List ℕ)} → All (λ ns. ns ≡ replicate 16 0) nss → (i j : ℕ) → needAt nss i j ≤ 0
+needs-none stop i j = zero-le
+needs-none (and e q) zero j = omega (arith, ap (λ ns. getD ns j 0) e, getD-zeros 16 j)
+  where
+    getD-zeros : (n j : ℕ) → getD (replicate n 0) j 0 ≤ 0
+    getD-zeros zero j = zero-le
+    getD-zeros (suc n) zero = zero-le
+    getD-zeros (suc n) (suc j) = getD-zeros n j
+needs-none (and e q) (suc i) j = needs-none q i j
+
+-- where the rows from one on need nothing, a row that needs something stands before it, so its change changes none of them
+pub spare-set : (rows : ℕ) (nss : List (List ℕ)) (i j : ℕ) (ns : List ℕ) → 1 ≤ needAt nss i j
+    → All (λ ms. ms ≡ replicate 16 0) (drop rows nss) → All (λ ms. ms ≡ replicate 16 0) (drop rows (set nss i ns))
+spare-set zero nss i j ns h q = absurd (omega (arith, needs-none q i j))
+spare-set (suc r) [] i j ns h q = stop
+spare-set (suc r) (ms ∷ nss) zero j ns h q = q
+spare-set (suc r) (ms ∷ nss) (suc i) j ns h q = spare-set r nss i j ns h q
 
 -- ---- other jobs
 -- a row of n equal needs, and m zeros after them, is n jobs; a row of zeros is none

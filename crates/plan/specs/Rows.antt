@@ -1,9 +1,11 @@
 -- Rows of jobs, one row for each stream of an interval, in the order of the tie rules: their jobs, and the plan of these by steps D
 -- and E. What is asked of rows. Assumes nothing.
+use mathlib.Core.Path.{_≡_}
 use mathlib.Core.Bool.{Bool}
 use mathlib.Core.List.{List, [], _∷_, _++_}
 use Prim.Native.Nat.{ℕ, suc, _*_, _≤_}
 use lib.Dec.{ltb}
+use lib.ListN.{drop, replicate}
 use Rattle.lists.specs.Lists.{keep}
 use Rattle.lists.specs.All.{All}
 use Rattle.rules.specs.Slots.{Job, jobAt, slotsFrom, Run, runsFrom}
@@ -40,3 +42,8 @@ pub record Rows (b : ℕ) (streams lengths : List ℕ) (needs : List (List ℕ))
   pub short : b ≤ 1024000
   pub each : All (Length b) lengths
   pub names : Keys (keep unfinished (rowJobs streams lengths needs))
+
+-- every row from `rows` on has jobs as long as the interval, which need nothing
+pub record Spare (b rows : ℕ) (Ts : List ℕ) (nss : List (List ℕ)) : Type 0 where
+  pub lengths : All (λ T. T ≡ b) (drop rows Ts)
+  pub needs : All (λ ns. ns ≡ replicate 16 0) (drop rows nss)

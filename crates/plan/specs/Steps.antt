@@ -19,8 +19,9 @@ use Rattle.plan.specs.declared.Pen.{Pen}
 use Rattle.plan.specs.Rows.{unfinished, rowJobs, rowPlan, Length, Rows}
 use Rattle.plan.specs.Skipped.{Skipped, Changed, skipped-done, keys-spent, changed-spent, run-changed}
 use Rattle.plan.specs.RowLaws.{Wide, needAt, withNeed, jobIn, in-row, rows-changed, wide-with}
-use Rattle.plan.specs.Heads.{firstLeft, head-at}
-use Rattle.plan.specs.Places.{Short, chosenAt, heldBy, headIn, place-chosen}
+use Rattle.plan.specs.Heads.{head-at}
+use Rattle.plan.specs.Places.{Short, never, releasesOf, chosenAt, heldBy, headIn, place-chosen}
+use Rattle.plan.specs.Kept.{Kept}
 use Rattle.plan.specs.Next.{nextOf, next-more, next-most, next-quiet}
 use Rattle.plan.specs.Turns.{turns, next-turn, job-turn}
 use Rattle.plan.specs.Pens.{named, blank, openRun, pending, written, closed, extended, length-words, written-after, pending-end}
@@ -96,12 +97,12 @@ module _ {b t : ℕ} {ss Ts : List ℕ} {total : List Run} {old ws : List ℕ} {
       )
 
   -- the place chosen: its first unfinished job is the choice, and one of its sixteen; or it is none
-  module _ (u : length ss ≡ 32) (v : length Ts ≡ 32) (l : Short Ts) {hs : List ℕ} (e : hs ≡ map firstLeft nss) {i : ℕ}
-      (f : i ≡ chosenAt t Ts hs) where
+  module _ (u : length ss ≡ 32) (v : length Ts ≡ 32) (l : Short Ts) (m : t < never) {rows : ℕ} {hs rs : List ℕ}
+      (k : Kept rows Ts nss hs rs) {i : ℕ} (f : i ≡ chosenAt t Ts rs) where
     held : heldBy (headIn ss Ts nss) i ≡ choose t (rowJobs ss Ts nss)
     held =
-        ap (heldBy (headIn ss Ts nss)) (f ∙ ap (chosenAt t Ts) e)
-        ∙ place-chosen t ss Ts nss u v (s .rows) (s .wide) l
+        ap (heldBy (headIn ss Ts nss)) (f ∙ ap (chosenAt t Ts) (k .releases ∙ ap (releasesOf Ts) (k .heads)))
+        ∙ place-chosen t ss Ts nss u v (s .rows) (s .wide) l m
 
     pub none-chosen : 32 ≤ i → choose t (rowJobs ss Ts nss) ≡ none
     none-chosen h = sym held ∙ ap (λ x. cond x (some (headIn ss Ts nss i)) none) (le-ltb i 32 h)
@@ -110,7 +111,7 @@ module _ {b t : ℕ} {ss Ts : List ℕ} {total : List Run} {old ws : List ℕ} {
     job-chosen h =
         let c : choose t (rowJobs ss Ts nss) ≡ some (jobIn ss Ts nss i (getD hs i 0)) =
         sym held ∙ ap (λ x. cond x (some (headIn ss Ts nss i)) none) (lt-ltb i 32 h)
-        ∙ ap (λ j. some (jobIn ss Ts nss i j)) (sym (ap (λ xs. getD xs i 0) e ∙ head-at nss i)) in
+        ∙ ap (λ j. some (jobIn ss Ts nss i j)) (sym (ap (λ xs. getD xs i 0) (k .heads) ∙ head-at nss i)) in
         let r : i < length nss = omega (arith, s .rows) in (
           c,
           omega (

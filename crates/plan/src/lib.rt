@@ -1,18 +1,18 @@
 // The slot plan of one interval, by events: at time t the job chosen runs to the nearer of its end and the next release. So the work
 // grows with the jobs and not with the slots. Rows stand in the order of the tie rules, one for each stream; job j of row i is
-// released at j times its length. Of a row only the first unfinished job matters, so heads has its number. A turn ends a job, or comes to
-// a release or to the end: there are at most 993 of them (specs/Turns.antt).
+// released at j times its length. Of a row only the first unfinished job matters: heads has its number and releases its release, and they
+// change where it ends. A turn ends a job, or comes to a release or to the end: there are at most 993 of them (specs/Turns.antt).
 ghost use mathlib.Core.Path.{_≡_};
 ghost use mathlib.Core.List.{[], _∷_, _++_, map};
 ghost use Prim.Native.Nat.{_+_, _*_, _≤_, _<_, min};
-ghost use lib.ListN.{length, drop};
+ghost use lib.ListN.{length, drop, replicate};
 ghost use Rattle.lists.specs.All.{All};
 ghost use Rattle.rules.specs.Slots.{run};
 ghost use Rattle.rules.specs.Calls.{wordsOf};
-ghost use Rattle.plan.specs.Rows.{Length, Rows, rowPlan};
+ghost use Rattle.plan.specs.Rows.{Length, Rows, Spare, rowPlan};
 ghost use Rattle.plan.specs.Heads.{firstLeft};
 ghost use Rattle.plan.specs.Next.{nextOf};
-ghost use Rattle.plan.specs.Places.{Short, dueBy, chosenAt};
+ghost use Rattle.plan.specs.Places.{Short, never, releaseOf, releasesOf, chosenAt};
 ghost use Rattle.plan.specs.Pens.{blank, named, openRun, written, grows, closed, extended};
 
 // Later than any job of an interval is due.
@@ -33,13 +33,14 @@ fn smaller(a: u32, b: u32) -> u32
     if a <= b { a } else { b }
 }
 
-// The first release after t of any row's jobs; at most b, the end.
-fn next_release(b: u32, lengths: [u32; 32], t: u32) -> u32
+// The first release after t of any row's jobs; at most b, the end. Rows as long as the interval release none before it.
+fn next_release(b: u32, rows: usize, lengths: [u32; 32], t: u32) -> u32
     requires { ⌜ (t < b) × ((b ≤ 1024000) × All (Length b) lengths) ⌝ }
+    requires { ⌜ (rows ≤ 32) × All (λ T. T ≡ b) (drop rows lengths) ⌝ }
     ensures { λ r. ⌜ r ≡ nextOf b t lengths ⌝ }
 {
     let mut next = b;
-    for i in 0..32 {
+    for i in 0..rows {
         let length = lengths[i];
         let release = (t / length + 1) * length;
         next = smaller(next, release);
@@ -48,14 +49,15 @@ fn next_release(b: u32, lengths: [u32; 32], t: u32) -> u32
 }
 
 // The same; the one found last still is the next while it is ahead, so that it is looked for only where one has come.
-fn next_after(b: u32, lengths: [u32; 32], t: u32, next: u32) -> u32
+fn next_after(b: u32, rows: usize, lengths: [u32; 32], t: u32, next: u32) -> u32
     requires { ⌜ (t < b) × ((b ≤ 1024000) × (All (Length b) lengths × (t < next → next ≡ nextOf b t lengths))) ⌝ }
+    requires { ⌜ (rows ≤ 32) × All (λ T. T ≡ b) (drop rows lengths) ⌝ }
     ensures { λ r. ⌜ r ≡ nextOf b t lengths ⌝ }
 {
     if t < next {
         return next;
     }
-    next_release(b, lengths, t)
+    next_release(b, rows, lengths, t)
 }
 
 // The number of a row's first unfinished job; 16 where there is none.
@@ -70,11 +72,13 @@ fn first_left(row: [u32; 16]) -> usize
     16
 }
 
-fn first_jobs(needs: [[u32; 16]; 32]) -> [usize; 32]
+// The same of each row; those behind the first rows need nothing.
+fn first_jobs(rows: usize, needs: [[u32; 16]; 32]) -> [usize; 32]
+    requires { ⌜ (rows ≤ 32) × All (λ ns. ns ≡ replicate 16 0) (drop rows needs) ⌝ }
     ensures { λ r. ⌜ r ≡ map firstLeft needs ⌝ }
 {
-    let mut heads = [0usize; 32];
-    for i in 0..32 {
+    let mut heads = [16usize; 32];
+    for i in 0..rows {
         let row = needs[i];
         let head = first_left(row);
         heads[i] = head;
@@ -82,33 +86,46 @@ fn first_jobs(needs: [[u32; 16]; 32]) -> [usize; 32]
     heads
 }
 
-// When a row's first unfinished job is due, if it is released by t.
-fn due_by(t: u32, length: u32, job: usize) -> u32
+// When a row's first unfinished job is released; NEVER where it has none.
+fn release_of(length: u32, job: usize) -> u32
     requires { ⌜ length ≤ 1024000 ⌝ }
-    ensures { λ r. ⌜ r ≡ dueBy t length job ⌝ }
+    ensures { λ r. ⌜ r ≡ releaseOf length job ⌝ }
 {
     if 16 <= job {
         return NEVER;
     }
-    let release = (job as u32) * length;
-    if t < release {
-        return NEVER;
+    (job as u32) * length
+}
+
+// The same of each row; those behind the first rows have none.
+fn first_releases(rows: usize, lengths: [u32; 32], heads: [usize; 32]) -> [u32; 32]
+    requires { ⌜ Short lengths ⌝ }
+    requires { ⌜ (rows ≤ 32) × All (λ h. h ≡ 16) (drop rows heads) ⌝ }
+    ensures { λ r. ⌜ r ≡ releasesOf lengths heads ⌝ }
+{
+    let mut releases = [NEVER; 32];
+    for i in 0..rows {
+        releases[i] = release_of(lengths[i], heads[i]);
     }
-    release + length
+    releases
 }
 
 // The place of the job that slot t goes to: of those due first the first; 32 where the slot is idle.
-fn choose_place(t: u32, lengths: [u32; 32], heads: [usize; 32]) -> usize
-    requires { ⌜ Short lengths ⌝ }
-    ensures { λ r. ⌜ r ≡ chosenAt t lengths heads ⌝ }
+fn choose_place(t: u32, rows: usize, lengths: [u32; 32], releases: [u32; 32]) -> usize
+    requires { ⌜ (t ≤ 1024000) × Short lengths ⌝ }
+    requires { ⌜ (rows ≤ 32) × All (λ r. r ≡ never) (drop rows releases) ⌝ }
+    ensures { λ r. ⌜ r ≡ chosenAt t lengths releases ⌝ }
 {
     let mut place: usize = 32;
-    let mut due = NEVER;
-    for i in 0..32 {
-        let d = due_by(t, lengths[i], heads[i]);
-        if d < due {
-            place = i;
-            due = d;
+    let mut best = NEVER;
+    for i in 0..rows {
+        let release = releases[i];
+        if release <= t {
+            let due = release + lengths[i];
+            if due < best {
+                place = i;
+                best = due;
+            }
         }
     }
     place
@@ -188,33 +205,39 @@ fn blank_pen() -> Pen
     }
 }
 
-// The records of the plan in the first words, and how many there are. Every later word stays as it was.
+// The records of the plan in the first words, and how many there are. Every later word stays as it was. Only the first rows have jobs, so
+// that the work grows with them.
 pub fn write_plan(
     b: u32,
+    rows: usize,
     streams: [u32; 32],
     lengths: [u32; 32],
     needs: [[u32; 16]; 32],
     plan: &mut [u32],
 ) -> usize
     requires { ⌜ Rows b streams lengths needs × (4096 ≤ length (now plan)) ⌝ }
+    requires { ⌜ (rows ≤ 32) × Spare b rows lengths needs ⌝ }
     ensures { λ r. ⌜ (r ≡ length (rowPlan b streams lengths needs)) × ((r ≤ 1024)
         × (now (plan .exit) ≡ wordsOf (rowPlan b streams lengths needs) ++ drop (4 * r) (now (plan .entry)))) ⌝ }
 {
     let mut left = needs;
-    let mut heads = first_jobs(needs);
+    let mut heads = first_jobs(rows, needs);
+    let mut releases = first_releases(rows, lengths, heads);
     let mut pen = blank_pen();
     let mut t: u32 = 0;
     let mut next: u32 = 0;
     while t < b {
-        next = next_after(b, lengths, t, next);
-        let i = choose_place(t, lengths, heads);
+        next = next_after(b, rows, lengths, t, next);
+        let i = choose_place(t, rows, lengths, releases);
         if i < 32 {
             let j = heads[i];
             let need = left[i][j];
             let n = smaller(need, next - t);
             left[i][j] = need - n;
-            let row = left[i];
-            heads[i] = first_left(row);
+            if need == n {
+                heads[i] = first_left(left[i]);
+                releases[i] = release_of(lengths[i], heads[i]);
+            }
             pen = extend_run(pen, plan, streams[i], j as u32, t, n);
             t = t + n;
         } else {

@@ -276,9 +276,10 @@ pub fn beacon(t: Table, plan: &mut [u32]) -> Beaconing
             table: t,
         };
     }
-    let s = share::sharing_of(t);
-    let count = jobs::write_jobs(t, s, plan);
-    let table = advance::advance(t, s);
+    let q = share::queue_of(t);
+    let s = share::shares_of(t, q);
+    let count = jobs::write_jobs(t, q, s, plan);
+    let table = advance::advance(t, q.used, s);
     Beaconing {
         answer: BeaconAnswer::Planned,
         count,

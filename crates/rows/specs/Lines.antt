@@ -10,6 +10,16 @@ use Rattle.rows.specs.declared.Reader.{Reader}
 use Rattle.rows.specs.declared.Cut.{Cut}
 use Rattle.text.specs.Rows.{lf, cr, rowMost}
 
+-- a line, a reader and a cut by their parts
+abbrev pub lineIn : List ℕ → ℕ → Line
+lineIn bs n = record { bytes = bs; len = n }
+
+abbrev pub readerIn : List ℕ → ℕ → Bool → Reader
+readerIn bs n h = record { line = lineIn bs n; held = h }
+
+abbrev pub cutAt : Reader → ℕ → Bool → Cut
+cutAt r n e = record { reader = r; taken = n; ended = e }
+
 -- a row that has no byte yet
 unfoldable pub noLine : Line
 noLine = record { bytes = replicate rowMost 0; len = 0 }

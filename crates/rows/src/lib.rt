@@ -1,6 +1,6 @@
 // Rows of an input that comes in chunks of any size. The state between two chunks is a struct by value, and no chunk is kept.
 ghost use mathlib.Core.Path.{_≡_};
-ghost use Rattle.rows.specs.Lines.{noLine, withByte, atStart, unheld, endsRow, afterByte, cutFrom};
+ghost use Rattle.rows.specs.Lines.{lineIn, readerIn, cutAt, withByte, atStart, unheld, cutFrom};
 
 // The longest row before its CR LF.
 pub const ROW_MOST: usize = 64;
@@ -34,18 +34,15 @@ pub fn at_start() -> Reader
     Reader { line, held: false }
 }
 
-fn with_byte(line: Line, b: u8) -> Line
-    ensures { λ r. ⌜ r ≡ withByte line b ⌝ }
+// One byte more of a row: it is kept while there is room. The length after it, 65 standing for every length above 64.
+fn keep_byte(bytes: &mut [u8; ROW_MOST], len: usize, b: u8) -> usize
+    ensures { λ n. ⌜ lineIn (now (bytes .exit)) n ≡ withByte (lineIn (now (bytes .entry)) len) b ⌝ }
 {
-    let at = line.len;
-    let mut next = line;
-    if at < ROW_MOST {
-        next.bytes[at] = b;
-        next.len = at + 1;
-        return next;
+    if len < ROW_MOST {
+        bytes[len] = b;
+        return len + 1;
     }
-    next.len = ROW_MOST + 1;
-    next
+    ROW_MOST + 1
 }
 
 // At the end of the input a CR that was kept back belongs to the row.
@@ -54,30 +51,22 @@ pub fn unheld(r: Reader) -> Line
 {
     let line = r.line;
     if r.held {
-        return with_byte(line, 13);
+        let mut bytes = line.bytes;
+        let len = keep_byte(&mut bytes, line.len, 13);
+        return Line { bytes, len };
     }
     line
 }
 
-fn ends_row(r: Reader, b: u8) -> bool
-    ensures { λ e. ⌜ e ≡ endsRow r b ⌝ }
+fn cut_of(bytes: [u8; ROW_MOST], len: usize, held: bool, taken: usize, ended: bool) -> Cut
+    ensures { λ c. ⌜ c ≡ cutAt (readerIn bytes len held) taken ended ⌝ }
 {
-    if r.held {
-        return b == 10;
-    }
-    false
-}
-
-fn after_byte(r: Reader, b: u8) -> Reader
-    ensures { λ n. ⌜ n ≡ afterByte r b ⌝ }
-{
-    let line = unheld(r);
-    if b == 13 {
-        return Reader { line, held: true };
-    }
-    Reader {
-        line: with_byte(line, b),
-        held: false,
+    let line = Line { bytes, len };
+    let reader = Reader { line, held };
+    Cut {
+        reader,
+        taken,
+        ended,
     }
 }
 
@@ -85,24 +74,24 @@ fn after_byte(r: Reader, b: u8) -> Reader
 pub fn cut_row(r: Reader, chunk: &[u8]) -> Cut
     ensures { λ c. ⌜ c ≡ cutFrom 0 r (now (chunk .entry)) ⌝ }
 {
-    let mut reader = r;
+    let line = r.line;
+    let mut bytes = line.bytes;
+    let mut len = line.len;
+    let mut held = r.held;
     let mut i: usize = 0;
     while i < chunk.len() {
         let b = chunk[i];
-        if ends_row(reader, b) {
-            return Cut {
-                reader,
-                taken: i + 1,
-                ended: true,
-            };
-        }
-        let next = after_byte(reader, b);
-        reader = next;
         i += 1;
+        if held {
+            if b == 10 {
+                return cut_of(bytes, len, held, i, true);
+            }
+            len = keep_byte(&mut bytes, len, 13);
+        }
+        held = b == 13;
+        if b != 13 {
+            len = keep_byte(&mut bytes, len, b);
+        }
     }
-    Cut {
-        reader,
-        taken: i,
-        ended: false,
-    }
+    cut_of(bytes, len, held, i, false)
 }

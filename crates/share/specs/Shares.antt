@@ -1,19 +1,26 @@
 -- The figures by which an interval is shared, and what an entry gets by them. For each entry that a table holds, these are its slots of
 -- steps B and C of document 01, "One beacon". Assumes nothing.
-use mathlib.Core.Path.{_≡_, sym, ap₂}
-use mathlib.Core.List.{List}
-use Prim.Native.Nat.{ℕ}
+use mathlib.Core.Path.{_≡_, sym, ap, ap₂, _∙_}
+use mathlib.Core.List.{List, map}
+use Prim.Native.Nat.{ℕ, _-_, _<_}
+use native.Mathlib.Omega.{arith}
+use lib.ListN.{length, getD}
 use Rattle.lists.specs.All.{All, all-zip}
+use Rattle.lists.specs.Loops.{map-at}
+use Rattle.model.specs.Entries.{freeEntry}
 use Rattle.model.specs.declared.Entry.{Entry}
 use Rattle.model.specs.declared.Table.{Table}
 use Rattle.rules.specs.Share.{capacity, stepB, remains, headroom, weight, extra}
 use Rattle.rules.specs.Calls.{heldOf}
 use Rattle.laws.specs.Turns.{stepBOf}
-use Rattle.laws.specs.Extras.{stepCOf}
-use Rattle.laws.specs.Places.{Tidy}
+use Rattle.laws.specs.Extras.{stepCOf, extra-le}
+use Rattle.laws.specs.Places.{Tidy, remains-places}
 use Rattle.laws.specs.Closed.{takes, takes-held, extra-held}
 use Rattle.share.specs.declared.Granted.{Granted}
+use Rattle.share.specs.declared.Queue.{Queue}
 use Rattle.share.specs.declared.Sharing.{Sharing}
+use Rattle.share.specs.declared.Shares.{Shares}
+use Rattle.share.specs.Queues.{Queued, owedBelow, piecesOf, takes-found, below-all}
 
 abbrev pub granted : (piece extra : ℕ) → Granted
 granted b c = record { piece = record { 0 = b }; extra = record { 0 = c } }
@@ -32,6 +39,45 @@ abbrev pub grantOf : Sharing → List Entry → Entry → Granted
 grantOf s ps e =
     let b = takes (s .capacity .0) ps e in
     granted b (extra (s .remains .0) (s .weight) (headroom e b))
+
+-- ---- place by place
+-- the slots of step B
+abbrev pub piecesIn : Table → List ℕ
+piecesIn t = map (takes (capacity (t .interval .0) (heldOf t)) (t .entries)) (t .entries)
+
+-- the extra for L and W
+abbrev pub extraIn : (L W : ℕ) → Table → Entry → ℕ
+extraIn L W t e = extra L W (headroom e (takes (capacity (t .interval .0) (heldOf t)) (t .entries) e))
+
+pub extra-free : (L W : ℕ) (t : Table) → extraIn L W t freeEntry ≡ 0
+extra-free L W t = omega (arith, extra-le L W 0)
+
+abbrev pub extrasBy : (L W : ℕ) → Table → List ℕ
+extrasBy L W t = map (extraIn L W t) (t .entries)
+
+abbrev pub sharesOf : Table → Shares
+sharesOf t =
+    let s = sharingOf t in
+    record { pieces = piecesIn t; extras = extrasBy (s .remains .0) (s .weight) t }
+
+-- what the shares have for a place is what its entry gets
+pub grant-found : (t : Table) {s : Shares} → s ≡ sharesOf t → (i : ℕ) → i < length (t .entries)
+    → granted (getD (s .pieces) i 0) (getD (s .extras) i 0) ≡ grantOf (sharingOf t) (t .entries) (getD (t .entries) i freeEntry)
+grant-found t {s} e i h =
+    ap₂ granted
+    (ap (λ (x : Shares). getD (x .pieces) i 0) e ∙ map-at _ (t .entries) i freeEntry 0 h)
+    (ap (λ (x : Shares). getD (x .extras) i 0) e ∙ map-at _ (t .entries) i freeEntry 0 h)
+
+-- what a program finds of a table's queue
+module _ (t : Table) (w : Tidy t) {q : Queue} (k : Queued t q) where
+  pub pieces-found : {c : ℕ} {ps : List ℕ} → c ≡ capacity (t .interval .0) (heldOf t) → ps ≡ piecesOf c (q .ranks) (q .owed)
+      → ps ≡ piecesIn t
+  pieces-found {c} e p = takes-found t w k c p ∙ ap (λ n. map (takes n (t .entries)) (t .entries)) e
+
+  pub remains-found : {c o L : ℕ} → c ≡ capacity (t .interval .0) (heldOf t)
+      → o ≡ owedBelow 18446744073709551615 (q .ranks) (q .owed) → L ≡ c - o → L ≡ remains (t .interval .0) (heldOf t)
+  remains-found e p r =
+      omega (arith, remains-places t w, p ∙ ap₂ (owedBelow 18446744073709551615) (k .ranks) (k .owed) ∙ below-all t w)
 
 pub grants-right : (t : Table) → Tidy t → (let B = t .interval .0 in let es = heldOf t in
     All (λ e. grantOf (sharingOf t) (t .entries) e ≡ granted (stepBOf B es e) (stepCOf B es e)) es)

@@ -1,18 +1,19 @@
 // What each request gets of an interval: steps A to C of document 01, "One beacon", over a table's 32 places.
-// Nothing here sorts: what those before an entry are owed is added up, place by place.
+// Nothing here sorts: what is owed at lower ranks is added up, place by place. The loops stop after the last place that is held.
 ghost use mathlib.Core.Bool.{cond};
 ghost use mathlib.Core.Path.{_≡_};
-ghost use Prim.Native.Nat.{_*_, _-_, min};
-ghost use Rattle.lists.specs.Lists.{sumOf};
+ghost use Prim.Native.Nat.{_+_, _*_, _-_, _≤_, _<_, min};
+ghost use lib.Dec.{ltb};
+ghost use lib.ListN.{getD};
+ghost use Rattle.lists.specs.Spare.{Spare};
 ghost use Rattle.model.specs.Entries.{isKind, isPiece};
 ghost use Rattle.rules.specs.Share.{load, overfull, capacity as capacityOf};
-ghost use Rattle.rules.specs.Share.{sooner, stepB, headroom, jobCount, weight, extra};
+ghost use Rattle.rules.specs.Share.{stepB, headroom, jobCount, weight, extra};
 ghost use Rattle.rules.specs.Slots.{jobLength};
 ghost use Rattle.rules.specs.Calls.{heldOf};
 ghost use Rattle.laws.specs.Places.{Tidy};
-ghost use Rattle.laws.specs.Turns.{owedBefore};
-ghost use Rattle.laws.specs.Closed.{takes};
-ghost use Rattle.share.specs.Shares.{sharingOf, grantOf};
+ghost use Rattle.share.specs.Queues.{Used, owedTo, owedBelow, pieceOf, piecesOf, Queued};
+ghost use Rattle.share.specs.Shares.{granted, grantOf, piecesIn, extrasBy, sharesOf};
 use model::Entry;
 use model::Slots;
 use model::Table;
@@ -119,25 +120,15 @@ pub fn is_piece(e: Entry) -> bool
     kind == 2 || kind == 3
 }
 
-// Fewest intervals left, then kind 2 before 3, then lower stream number.
-pub fn is_sooner(e: Entry, f: Entry) -> bool
-    ensures { λ r. ⌜ r ≡ sooner e f ⌝ }
+// Fewest intervals left, then kind 2 before 3, then lower stream number, as one number: the lower comes sooner.
+fn rank(left: u32, kind: u32, stream: u32) -> u64
+    ensures { λ r. ⌜ r ≡ (left * 4 + kind) * 65536 + stream ⌝ }
 {
-    let left = e.left.0;
-    let other_left = f.left.0;
-    if left != other_left {
-        return left < other_left;
-    }
-    let kind = e.kind;
-    let other_kind = f.kind;
-    if kind != other_kind {
-        return kind < other_kind;
-    }
-    e.stream < f.stream
+    ((left as u64) * 4 + (kind as u64)) * 65536 + (stream as u64)
 }
 
 fn owed_of(e: Entry) -> u32
-    ensures { λ r. ⌜ r ≡ cond (isPiece e) (e .owed .0) 0 ⌝ }
+    ensures { λ r. ⌜ r ≡ owedTo e ⌝ }
 {
     if is_piece(e) {
         return e.owed.0;
@@ -145,49 +136,93 @@ fn owed_of(e: Entry) -> u32
     0
 }
 
-fn owed_if_sooner(f: Entry, e: Entry) -> u32
-    ensures { λ r. ⌜ r ≡ cond (isPiece f) (cond (sooner f e) (f .owed .0) 0) 0 ⌝ }
+// Step B by numbers, place by place: a rank, and what is owed there. From place `used` on all are free.
+pub struct Queue {
+    pub used: usize,
+    pub ranks: [u64; 32],
+    pub owed: [u32; 32],
+}
+
+// The places up to the last that is held.
+fn used_places(t: Table) -> usize
+    requires { ⌜ Tidy t ⌝ }
+    ensures { λ r. ⌜ Used r t ⌝ }
 {
-    if is_sooner(f, e) {
-        return owed_of(f);
+    let mut n: usize = 32;
+    while 0 < n {
+        let e = t.entries[n - 1];
+        let stream = e.stream;
+        if stream != 0 {
+            return n;
+        }
+        n = n - 1;
     }
     0
 }
 
-// What all pieces are owed together: 32 numbers of 32 bits.
-pub fn owed_total(t: Table) -> u64
-    ensures { λ r. ⌜ r ≡ sumOf (λ f. cond (isPiece f) (f .owed .0) 0) (t .entries) ⌝ }
+pub fn queue_of(t: Table) -> Queue
+    requires { ⌜ Tidy t ⌝ }
+    ensures { λ r. ⌜ Queued t r ⌝ }
+{
+    let used = used_places(t);
+    let mut ranks = [0u64; 32];
+    let mut owed = [0u32; 32];
+    for i in 0..used {
+        let e = t.entries[i];
+        ranks[i] = rank(e.left.0, e.kind, e.stream);
+        owed[i] = owed_of(e);
+    }
+    Queue { used, ranks, owed }
+}
+
+fn owed_if_lower(owed: u32, rank: u64, own: u64) -> u32
+    ensures { λ r. ⌜ r ≡ cond (ltb rank own) owed 0 ⌝ }
+{
+    if rank < own {
+        return owed;
+    }
+    0
+}
+
+// What is owed at lower ranks than one's own.
+fn owed_below(used: usize, ranks: [u64; 32], owed: [u32; 32], own: u64) -> u64
+    requires { ⌜ (used ≤ 32) × Spare 0 used owed ⌝ }
+    ensures { λ r. ⌜ r ≡ owedBelow own ranks owed ⌝ }
 {
     let mut all: u64 = 0;
-    for i in 0..32 {
-        let f = t.entries[i];
-        all = all + (owed_of(f) as u64);
+    for i in 0..used {
+        all = all + (owed_if_lower(owed[i], ranks[i], own) as u64);
     }
     all
 }
 
-// What is owed to those that come before an entry.
-pub fn owed_before(t: Table, e: Entry) -> u64
-    ensures { λ r. ⌜ r ≡ owedBefore e (t .entries) ⌝ }
+// The smaller of what is owed at a place and what lower ranks leave. Where nothing is owed the others are not looked at.
+fn piece_at(used: usize, ranks: [u64; 32], owed: [u32; 32], capacity: Slots, i: usize) -> u32
+    requires { ⌜ (used ≤ 32) × Spare 0 used owed ⌝ }
+    requires { ⌜ i < 32 ⌝ }
+    ensures { λ r. ⌜ r ≡ pieceOf (capacity .0) ranks owed (getD ranks i 0) (getD owed i 0) ⌝ }
 {
-    let mut all: u64 = 0;
-    for i in 0..32 {
-        let f = t.entries[i];
-        all = all + (owed_if_sooner(f, e) as u64);
+    let own = owed[i];
+    if own == 0 {
+        return 0;
     }
-    all
+    let rest = left_of(capacity, owed_below(used, ranks, owed, ranks[i]));
+    smaller(own, rest.0)
 }
 
-// The smaller of what an entry is owed and what those before it leave. Who is owed nothing need not look at the others.
-pub fn piece_slots(t: Table, capacity: Slots, e: Entry) -> Slots
-    ensures { λ r. ⌜ r .0 ≡ takes (capacity .0) (t .entries) e ⌝ }
+// For a tidy table's queue these are the slots of step B, place by place: Queues.pieces-right.
+pub fn pieces(q: Queue, capacity: Slots) -> [u32; 32]
+    requires { ⌜ (q .used ≤ 32) × Spare 0 (q .used) (q .owed) ⌝ }
+    ensures { λ r. ⌜ r ≡ piecesOf (capacity .0) (q .ranks) (q .owed) ⌝ }
 {
-    let owed = e.owed.0;
-    if owed == 0 {
-        return Slots(0);
+    let used = q.used;
+    let ranks = q.ranks;
+    let owed = q.owed;
+    let mut pieces = [0u32; 32];
+    for i in 0..used {
+        pieces[i] = piece_at(used, ranks, owed, capacity, i);
     }
-    let rest = left_of(capacity, owed_before(t, e));
-    Slots(smaller(owed, rest.0))
+    pieces
 }
 
 // ---- C. what remains is shared in proportion
@@ -207,23 +242,23 @@ pub fn headroom(e: Entry, piece: Slots) -> Slots
     Slots(0)
 }
 
-fn weight_of(t: Table, capacity: Slots, e: Entry) -> u64
-    ensures { λ r. ⌜ r ≡ jobCount e * headroom e (takes (capacity .0) (t .entries) e) ⌝ }
+fn weight_of(e: Entry, piece: Slots) -> u64
+    ensures { λ r. ⌜ r ≡ jobCount e * headroom e (piece .0) ⌝ }
 {
     let jobs = job_count(e) as u64;
-    let room = headroom(e, piece_slots(t, capacity, e));
+    let room = headroom(e, piece);
     jobs * (room.0 as u64)
 }
 
-fn weight(t: Table, capacity: Slots) -> u64
-    requires { ⌜ Tidy t ⌝ }
-    requires { ⌜ capacity .0 ≡ capacityOf (t .interval .0) (heldOf t) ⌝ }
+fn weight(t: Table, used: usize, pieces: [u32; 32]) -> u64
+    requires { ⌜ Tidy t × Used used t ⌝ }
+    requires { ⌜ pieces ≡ piecesIn t ⌝ }
     ensures { λ r. ⌜ r ≡ weight (stepB (t .interval .0) (heldOf t)) (heldOf t) ⌝ }
 {
     let mut all: u64 = 0;
-    for i in 0..32 {
+    for i in 0..used {
         let e = t.entries[i];
-        all = all + weight_of(t, capacity, e);
+        all = all + weight_of(e, Slots(pieces[i]));
     }
     all
 }
@@ -251,34 +286,61 @@ pub struct Sharing {
     pub weight: u64,
 }
 
-// Step B gives all that is owed, or the whole capacity: what remains is the capacity less all that is owed.
-pub fn sharing_of(t: Table) -> Sharing
-    requires { ⌜ Tidy t ⌝ }
-    ensures { λ r. ⌜ r ≡ sharingOf t ⌝ }
+fn extras(t: Table, used: usize, pieces: [u32; 32], s: Sharing) -> [u32; 32]
+    requires { ⌜ Used used t ⌝ }
+    requires { ⌜ pieces ≡ piecesIn t ⌝ }
+    ensures { λ r. ⌜ r ≡ extrasBy (s .remains .0) (s .weight) t ⌝ }
 {
+    let remains = s.remains;
+    let mut extras = [0u32; 32];
+    for i in 0..used {
+        let e = t.entries[i];
+        let x = extra(remains, s.weight, headroom(e, Slots(pieces[i])));
+        extras[i] = x.0;
+    }
+    extras
+}
+
+// What each place gets: its slots of step B and its extra, which for kind 1 goes to each of its jobs.
+pub struct Shares {
+    pub pieces: [u32; 32],
+    pub extras: [u32; 32],
+}
+
+// Step B gives all that is owed, or the whole capacity: what remains is the capacity less all that is owed.
+pub fn shares_of(t: Table, q: Queue) -> Shares
+    requires { ⌜ Tidy t ⌝ }
+    requires { ⌜ Queued t q ⌝ }
+    ensures { λ r. ⌜ r ≡ sharesOf t ⌝ }
+{
+    let used = q.used;
+    let ranks = q.ranks;
+    let owed = q.owed;
     let capacity = capacity(t);
-    let remains = left_of(capacity, owed_total(t));
-    let weight = weight(t, capacity);
-    Sharing {
+    let pieces = pieces(q, capacity);
+    let remains = left_of(capacity, owed_below(used, ranks, owed, u64::MAX));
+    let weight = weight(t, used, pieces);
+    let s = Sharing {
         capacity,
         remains,
         weight,
-    }
+    };
+    let extras = extras(t, used, pieces, s);
+    Shares { pieces, extras }
 }
 
-// What an entry gets: its slots of step B and its extra, which for kind 1 goes to each of its jobs.
+// What one place gets.
 pub struct Granted {
     pub piece: Slots,
     pub extra: Slots,
 }
 
-// For each held entry of a tidy table and the table's own figures these are the slots of steps B and C: Shares.grants-right.
-pub fn grant(t: Table, s: Sharing, e: Entry) -> Granted
-    ensures { λ r. ⌜ r ≡ grantOf s (t .entries) e ⌝ }
+pub fn grant_at(s: Shares, i: usize) -> Granted
+    requires { ⌜ i < 32 ⌝ }
+    ensures { λ r. ⌜ r ≡ granted (getD (s .pieces) i 0) (getD (s .extras) i 0) ⌝ }
 {
-    let capacity = s.capacity;
-    let remains = s.remains;
-    let piece = piece_slots(t, capacity, e);
-    let extra = extra(remains, s.weight, headroom(e, piece));
-    Granted { piece, extra }
+    Granted {
+        piece: Slots(s.pieces[i]),
+        extra: Slots(s.extras[i]),
+    }
 }

@@ -110,6 +110,19 @@ before-grows {x} {y} (a ∷ ss) h =
     (λ e. rw e (omega arith))
     (either (ltb a x))
 
+-- those before the later slot are those before the earlier one, and those found behind them
+before-on : {x y : ℕ} (ss : List ℕ) → x ≤ y → before x ss + before y (drop (before x ss) ss) ≡ before y ss
+unfolding before
+before-on [] h = refl
+before-on {x} {y} (a ∷ ss) h =
+    ⊎-elim
+    (λ e. rw (e, lt-ltb a y (omega (arith, ltb-true a x e))) (omega (arith, before-on ss h)))
+    (λ e. rw e (omega arith))
+    (either (ltb a x))
+
+pub passed-on : (n : ℕ) (ws : List ℕ) {i x y : ℕ} → i ≡ before x (startsOf n ws) → x ≤ y → Passed n ws i y
+passed-on n ws e h = rw e (before-on (startsOf n ws) h)
+
 before-most : (x : ℕ) (ss : List ℕ) → before x ss ≤ length ss
 unfolding before
 before-most x [] = omega arith
@@ -150,14 +163,11 @@ passes false false c e = (refl, refl)
 
 -- a and b are its ends
 module _ (ws : List ℕ) (n from until : ℕ) (e : windowAnswer ws n from until ≡ 0) where
-  window-tests : (recordWords * n ≤ length ws) × (from ≤ until)
+  pub window-tests : (recordWords * n ≤ length ws) × (from ≤ until)
   unfolding windowAnswer
   window-tests =
       let p = passes (ltb (length ws) (recordWords * n)) (ltb until from) (not (rises (startsOf n ws))) e in
       (ltb-false _ _ (p .0), ltb-false _ _ (p .1))
-
-  pub window-fits : recordWords * n ≤ length ws
-  window-fits = window-tests .0
 
   pub window-ends : {a b : ℕ} → a ≡ before from (startsOf n ws) → b ≡ before until (startsOf n ws)
       → (a ≤ b) × (recordWords * b ≤ length ws)

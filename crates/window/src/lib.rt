@@ -5,7 +5,8 @@ ghost use Prim.Native.Nat.{_+_, _*_, _-_, _≤_};
 ghost use lib.ListN.{length, take, drop};
 ghost use Rattle.rules.specs.Calls.{recordWords};
 ghost use Rattle.rules.specs.Reading.{startsOf, rises, before, windowAnswer, windowPart};
-ghost use Rattle.window.specs.Laws.{startAt};
+ghost use Rattle.window.specs.Laws.{startAt, Passed};
+ghost use Rattle.window.specs.Ends.{boundsOf};
 
 // The start of the i-th record.
 fn start_of(plan: &[u32], i: usize) -> u32
@@ -30,12 +31,12 @@ fn starts_rise(plan: &[u32], count: usize) -> bool
     true
 }
 
-// The number of the first record that starts at slot or later; the count where there is none.
-fn first_from(plan: &[u32], count: usize, slot: u32) -> usize
-    requires { ⌜ recordWords * count ≤ length (now plan) ⌝ }
+// The number of the first record that starts at slot or later; the count where there is none. It is looked for behind those passed.
+fn first_from(plan: &[u32], count: usize, passed: usize, slot: u32) -> usize
+    requires { ⌜ (recordWords * count ≤ length (now plan)) × Passed count (now plan) passed slot ⌝ }
     ensures { λ r. ⌜ r ≡ before slot (startsOf count (now (plan .entry))) ⌝ }
 {
-    let mut i = 0;
+    let mut i = passed;
     while i < count {
         if slot <= start_of(plan, i) {
             return i;
@@ -61,6 +62,30 @@ fn answer_of(plan: &[u32], count: usize, from: u32, until: u32) -> u32
     42
 }
 
+// The answer, and where the part begins and ends, counted in records: nothing where it is refused.
+pub struct Bounds {
+    pub answer: u32,
+    pub first: usize,
+    pub end: usize,
+}
+
+// One pass finds both ends: no record before the first starts at until or later.
+pub fn bounds_of(plan: &[u32], count: usize, from: u32, until: u32) -> Bounds
+    ensures { λ r. ⌜ r ≡ boundsOf (now (plan .entry)) count from until ⌝ }
+{
+    let answer = answer_of(plan, count, from, until);
+    if answer != 0 {
+        return Bounds {
+            answer,
+            first: 0,
+            end: 0,
+        };
+    }
+    let first = first_from(plan, count, 0, from);
+    let end = first_from(plan, count, first, until);
+    Bounds { answer, first, end }
+}
+
 // The records from first to just before end.
 fn records<'a>(plan: &'a [u32], first: usize, end: usize) -> &'a [u32]
     requires { ⌜ (first ≤ end) × (recordWords * end ≤ length (now plan)) ⌝ }
@@ -80,12 +105,7 @@ pub fn window<'a>(
     ensures { λ r. ⌜ (now r ≡ windowPart (now (plan .entry)) count from until)
         × (now (answer .exit) ≡ windowAnswer (now (plan .entry)) count from until) ⌝ }
 {
-    let refusal = answer_of(plan, count, from, until);
-    *answer = refusal;
-    if refusal != 0 {
-        return records(plan, 0, 0);
-    }
-    let first = first_from(plan, count, from);
-    let end = first_from(plan, count, until);
-    records(plan, first, end)
+    let b = bounds_of(plan, count, from, until);
+    *answer = b.answer;
+    records(plan, b.first, b.end)
 }

@@ -1,26 +1,29 @@
 use mathlib.Core.Path.{_≡_, refl, ap, _∙_}
-use mathlib.Core.List.{List, map}
-use Prim.Native.Nat.{_-_, _≤_}
 use native.Mathlib.Omega.{arith}
-use borrow.Author.Needs.{needs}
 use Rattle.lists.specs.All.{all-at}
-use Rattle.lists.specs.Loops.{mapped, mapped-more, mapped-all}
+use Rattle.lists.specs.Loops.{mapped, mapped-more, map-at}
+use Rattle.lists.specs.Spare.{spare-mapped}
+use Rattle.model.specs.Entries.{freeEntry}
 use Rattle.model.specs.declared.Entry.{Entry}
-use Rattle.share.specs.Shares.{grantOf}
-use Rattle.share.specs.declared.Sharing.{Sharing}
-use Rattle.share.proofs.Known.{inside, past}
+use Rattle.model.specs.declared.Table.{Table}
+use Rattle.laws.specs.Settled.{after-free}
+use Rattle.share.proofs.Known.{used-inside, used-rest}
+use Prim.Native.Nat.{_-_, _≤_, _<_}
+use lib.ListN.{length, getD}
+use Rattle.share.specs.Shares.{sharingOf, grantOf, grant-found}
 use Rattle.advance.specs.Next.{WithinAmounts, withEntries, afterGrant, advanced-places, grants-within}
+use borrow.Author.Needs.{needs}
 use Rattle.advance.proofs.advance.Statement.{statement}
 use Rattle.advance.proofs.advance.Tie as tie
 
-abbrev stepBy : Sharing → List Entry → Entry → Entry
-stepBy s ps e = afterGrant (grantOf s ps e) e
+abbrev stepIn : Table → Entry → Entry
+stepIn t e = afterGrant (grantOf (sharingOf t) (t .entries) e) e
 
 abbrev Inv-loop : tie.InvT-loop
-Inv-loop s t next₀ i₀ next i = (i ≤ 32) × (next ≡ withEntries t (mapped (stepBy s (t .entries)) i (t .entries)))
+Inv-loop used s t next₀ i₀ next i = (i ≤ used) × (next ≡ withEntries t (mapped (stepIn t) i (t .entries)))
 
 abbrev μ-loop : tie.MeasureT-loop
-μ-loop s t next₀ i₀ next i = 32 - i
+μ-loop used s t next₀ i₀ next i = used - i
 
 loop-holds : tie.Need-loop-holds Inv-loop μ-loop
 loop-holds c = (omega arith, refl)
@@ -31,16 +34,29 @@ mul-e c = search needs
 element-copy-out-e : tie.Need-element-copy-out-e Inv-loop μ-loop
 element-copy-out-e c = search needs
 
-grant-requires : tie.Need-grant-requires Inv-loop μ-loop
-grant-requires c κs = search needs
+grant-at-requires : tie.Need-grant-at-requires Inv-loop μ-loop
+grant-at-requires c κs = search needs
+
+-- the place of the turn, and what its entry gets
+within : (c : tie.After-grant-at Inv-loop μ-loop)
+    → c .before .before .before .loop .i < length (c .before .before .before .before .args .t1 .entries)
+within c =
+    let s = c .before .before .before .before in
+    used-inside (s .args .t1) (s .good .0) (s .pre .0 .1) (c .before .before .loop-test .taken)
+
+found : (c : tie.After-grant-at Inv-loop μ-loop) → (let l = c .before .before .before in let t = l .before .args .t1 in
+    c .grant-at .result ≡ grantOf (sharingOf t) (t .entries) (getD (t .entries) (l .loop .i) freeEntry))
+found c =
+    let l = c .before .before .before in
+    c .grant-at .ensures ∙ grant-found (l .before .args .t1) (l .before .pre .1) (l .loop .i) (within c)
 
 after-grant-requires : tie.Need-after-grant-requires Inv-loop μ-loop
 after-grant-requires c κs =
     let s = c .before .before .before .before in
     let t = s .args .t1 in
-    let h = inside t (s .good .0) (c .before .before .loop-test .taken) in
-    rw (c .grant .ensures)
-    (all-at (λ e. WithinAmounts (grantOf (s .args .s) (t .entries) e) e) _ _ (grants-within t (s .pre .0) (s .args .s)) _ h)
+    rw (found c)
+    (all-at (λ e. WithinAmounts (grantOf (sharingOf t) (t .entries) e) e) (t .entries) freeEntry
+    (grants-within t (s .pre .0 .0) (sharingOf t)) _ (within c))
 
 mul-n : tie.Need-mul-n Inv-loop μ-loop
 mul-n c = search needs
@@ -56,22 +72,23 @@ loop-less c = search needs
 
 loop-again : tie.Need-loop-again Inv-loop μ-loop
 loop-again c =
-    let s = c .before .before .before .before .before in
-    let t = s .args .t1 in
-    let h = inside t (s .good .0) (c .before .before .before .loop-test .taken) in (
+    let l = c .before .before .before .before in
+    let t = l .before .args .t1 in (
       omega arith,
-      rw (c .after-grant .ensures, c .before .grant .ensures, c .before .before .before .before .loop .inv .1)
-          (ap (withEntries t) (mapped-more (stepBy (s .args .s) (t .entries)) (t .entries) _ _ h)),
+      rw (c .after-grant .ensures, found (c .before), l .loop .inv .1)
+          (ap (withEntries t) (mapped-more (stepIn t) (t .entries) _ freeEntry (within (c .before)))),
     )
 
 returns : tie.Need-returns Inv-loop μ-loop
 returns c =
-    let s = c .before .before in
+    let l = c .before in
+    let s = l .before in
     let t = s .args .t1 in
-    c .before .loop .inv .1
-    ∙ ap (withEntries t) (mapped-all (stepBy (s .args .s) (t .entries)) (t .entries) _ (past t (s .good .0) (c .loop-test .left)))
-    ∙ ap (λ k. withEntries t (map (stepBy k (t .entries)) (t .entries))) (s .pre .1)
-    ∙ advanced-places t (s .pre .0)
+    l .loop .inv .1
+    ∙ ap (withEntries t)
+    (spare-mapped freeEntry (stepIn t) (after-free _ _) (l .loop .i) (t .entries)
+    (used-rest t (s .good .0) (s .pre .0 .1) (l .loop .inv .0) (c .loop-test .left)))
+    ∙ advanced-places t (s .pre .0 .0)
 
 pub advance-spec : {M : Type 1} → statement M
 advance-spec =
@@ -82,7 +99,7 @@ advance-spec =
     loop-holds
     mul-e
     element-copy-out-e
-    grant-requires
+    grant-at-requires
     after-grant-requires
     mul-n
     element-set-from-n

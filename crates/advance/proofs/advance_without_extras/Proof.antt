@@ -1,24 +1,35 @@
 use mathlib.Core.Path.{_≡_, refl, ap, _∙_}
-use mathlib.Core.List.{List, map}
-use Prim.Native.Nat.{ℕ, _-_, _≤_}
 use native.Mathlib.Omega.{arith}
-use borrow.Author.Needs.{needs}
 use Rattle.lists.specs.All.{all-at}
-use Rattle.lists.specs.Loops.{mapped, mapped-more, mapped-all}
+use Rattle.lists.specs.Loops.{mapped, mapped-more, map-at}
+use Rattle.lists.specs.Spare.{spare-mapped}
+use Rattle.model.specs.Entries.{freeEntry}
 use Rattle.model.specs.declared.Entry.{Entry}
-use Rattle.share.proofs.Known.{inside, past}
+use Rattle.model.specs.declared.Table.{Table}
+use Rattle.laws.specs.Settled.{after-free}
+use Rattle.share.proofs.Known.{used-inside, used-rest}
+use Prim.Native.Nat.{_-_, _≤_, _<_}
+use lib.ListN.{length, getD}
+use Rattle.rules.specs.Share.{capacity}
+use Rattle.rules.specs.Calls.{heldOf}
+use Rattle.laws.specs.Closed.{takes}
+use Rattle.share.specs.declared.Granted.{Granted}
 use Rattle.advance.specs.Next.{WithinAmounts, withEntries, afterGrant, pieceOnly, past-places, pieces-within}
+use borrow.Author.Needs.{needs}
 use Rattle.advance.proofs.advance_without_extras.Statement.{statement}
 use Rattle.advance.proofs.advance_without_extras.Tie as tie
 
-abbrev stepBy : (c : ℕ) → List Entry → Entry → Entry
-stepBy c ps e = afterGrant (pieceOnly c ps e) e
+abbrev pieceIn : Table → Entry → Granted
+pieceIn t e = pieceOnly (capacity (t .interval .0) (heldOf t)) (t .entries) e
+
+abbrev stepIn : Table → Entry → Entry
+stepIn t e = afterGrant (pieceIn t e) e
 
 abbrev Inv-loop : tie.InvT-loop
-Inv-loop capacity t next₀ i₀ next i = (i ≤ 32) × (next ≡ withEntries t (mapped (stepBy (capacity .0) (t .entries)) i (t .entries)))
+Inv-loop used t pieces next₀ i₀ next i = (i ≤ used) × (next ≡ withEntries t (mapped (stepIn t) i (t .entries)))
 
 abbrev μ-loop : tie.MeasureT-loop
-μ-loop capacity t next₀ i₀ next i = 32 - i
+μ-loop used t pieces next₀ i₀ next i = used - i
 
 loop-holds : tie.Need-loop-holds Inv-loop μ-loop
 loop-holds c = (omega arith, refl)
@@ -29,16 +40,32 @@ mul-e c = search needs
 element-copy-out-e : tie.Need-element-copy-out-e Inv-loop μ-loop
 element-copy-out-e c = search needs
 
-piece-slots-requires : tie.Need-piece-slots-requires Inv-loop μ-loop
-piece-slots-requires c κs = search needs
+mul-t13 : tie.Need-mul-t13 Inv-loop μ-loop
+mul-t13 c = search needs
+
+array-read-t19 : tie.Need-array-read-t19 Inv-loop μ-loop
+array-read-t19 c = search needs
+
+-- the place of the turn, and what its entry gets
+within : (c : tie.After-e Inv-loop μ-loop) → c .before .before .loop .i < length (c .before .before .before .args .t1 .entries)
+within c =
+    let s = c .before .before .before in
+    used-inside (s .args .t1) (s .good .0) (s .pre .0 .1) (c .before .loop-test .taken)
+
+found : (c : tie.After-e Inv-loop μ-loop) → (let l = c .before .before in let t = l .before .args .t1 in
+    getD (l .before .args .t3) (l .loop .i) 0 ≡ takes (capacity (t .interval .0) (heldOf t)) (t .entries) (getD (t .entries) (l .loop .i) freeEntry))
+found c =
+    let l = c .before .before in
+    let t = l .before .args .t1 in
+    ap (λ ns. getD ns (l .loop .i) 0) (l .before .pre .1) ∙ map-at _ (t .entries) (l .loop .i) freeEntry 0 (within c)
 
 after-grant-requires : tie.Need-after-grant-requires Inv-loop μ-loop
 after-grant-requires c κs =
-    let s = c .before .before .before .before in
+    let s = c .before .before .before in
     let t = s .args .t1 in
-    let h = inside t (s .good .0) (c .before .before .loop-test .taken) in
-    let n = s .args .capacity .0 in
-    rw (c .piece-slots .ensures) (all-at (λ e. WithinAmounts (pieceOnly n (t .entries) e) e) _ _ (pieces-within t (s .pre .0) n) _ h)
+    rw (found c)
+    (all-at (λ e. WithinAmounts (pieceIn t e) e) (t .entries) freeEntry (pieces-within t (s .pre .0 .0) (capacity (t .interval .0) (heldOf t))) _
+    (within c))
 
 mul-n : tie.Need-mul-n Inv-loop μ-loop
 mul-n c = search needs
@@ -54,22 +81,23 @@ loop-less c = search needs
 
 loop-again : tie.Need-loop-again Inv-loop μ-loop
 loop-again c =
-    let s = c .before .before .before .before .before in
-    let t = s .args .t1 in
-    let h = inside t (s .good .0) (c .before .before .before .loop-test .taken) in (
+    let l = c .before .before .before in
+    let t = l .before .args .t1 in (
       omega arith,
-      rw (c .after-grant .ensures, c .before .piece-slots .ensures, c .before .before .before .before .loop .inv .1)
-          (ap (withEntries t) (mapped-more (stepBy (s .args .capacity .0) (t .entries)) (t .entries) _ _ h)),
+      rw (c .after-grant .ensures, found (c .before), l .loop .inv .1)
+          (ap (withEntries t) (mapped-more (stepIn t) (t .entries) _ freeEntry (within (c .before)))),
     )
 
 returns : tie.Need-returns Inv-loop μ-loop
 returns c =
-    let s = c .before .before in
+    let l = c .before in
+    let s = l .before in
     let t = s .args .t1 in
-    c .before .loop .inv .1
-    ∙ ap (withEntries t) (mapped-all (stepBy (s .args .capacity .0) (t .entries)) (t .entries) _ (past t (s .good .0) (c .loop-test .left)))
-    ∙ ap (λ n. withEntries t (map (stepBy n (t .entries)) (t .entries))) (s .pre .1)
-    ∙ past-places t (s .pre .0)
+    l .loop .inv .1
+    ∙ ap (withEntries t)
+    (spare-mapped freeEntry (stepIn t) (after-free _ _) (l .loop .i) (t .entries)
+    (used-rest t (s .good .0) (s .pre .0 .1) (l .loop .inv .0) (c .loop-test .left)))
+    ∙ past-places t (s .pre .0 .0)
 
 pub advance-without-extras-spec : {M : Type 1} → statement M
 advance-without-extras-spec =
@@ -80,7 +108,8 @@ advance-without-extras-spec =
     loop-holds
     mul-e
     element-copy-out-e
-    piece-slots-requires
+    mul-t13
+    array-read-t19
     after-grant-requires
     mul-n
     element-set-from-n

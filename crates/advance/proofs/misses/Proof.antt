@@ -1,30 +1,34 @@
-use mathlib.Core.Path.{_≡_, ap, _∙_}
-use Prim.Native.Nat.{_-_, _≤_}
+use mathlib.Core.Path.{_≡_, refl, sym, ap, _∙_}
+use mathlib.Core.Bool.{Bool}
+use Prim.Native.Nat.{_-_, _≤_, _<_}
 use native.Mathlib.Omega.{arith}
-use lib.ListN.{drop}
-use borrow.Author.Needs.{needs}
+use lib.ListN.{length, drop, getD}
 use Rattle.lists.specs.Lists.{anyOf}
-use Rattle.lists.specs.Loops.{any-found, any-passed, any-ended}
-use Rattle.rules.specs.Share.{stepB}
+use Rattle.lists.specs.Loops.{any-found, any-passed, map-at}
+use Rattle.lists.specs.Spare.{spare-any}
+use Rattle.model.specs.Entries.{freeEntry}
+use Rattle.model.specs.declared.Entry.{Entry}
+use Rattle.model.specs.declared.Table.{Table}
+use Rattle.rules.specs.Share.{capacity, stepB}
 use Rattle.rules.specs.Ahead.{misses}
 use Rattle.rules.specs.Calls.{heldOf}
-use Rattle.share.proofs.Known.{inside, past}
-use Rattle.advance.specs.Next.{missesBy, misses-places}
+use Rattle.share.proofs.Known.{used-inside, used-rest}
+use Rattle.advance.specs.Next.{missesWith, missesBy, misses-places}
+use borrow.Author.Needs.{needs}
 use Rattle.advance.proofs.misses.Statement.{statement}
 use Rattle.advance.proofs.misses.Tie as tie
 
+abbrev missesIn : Table → Entry → Bool
+missesIn t e = missesBy (capacity (t .interval .0) (heldOf t)) (t .entries) e
+
 abbrev Inv-loop : tie.InvT-loop
-Inv-loop capacity t i₀ i =
-    (i ≤ 32)
-    × (anyOf (missesBy (capacity .0) (t .entries)) (drop i (t .entries)) ≡ anyOf (misses (stepB (t .interval .0) (heldOf t))) (heldOf t))
+Inv-loop used t pieces i₀ i = (i ≤ used) × (anyOf (missesIn t) (drop i (t .entries)) ≡ anyOf (misses (stepB (t .interval .0) (heldOf t))) (heldOf t))
 
 abbrev μ-loop : tie.MeasureT-loop
-μ-loop capacity t i₀ i = 32 - i
+μ-loop used t pieces i₀ i = used - i
 
 loop-holds : tie.Need-loop-holds Inv-loop μ-loop
-loop-holds c =
-    let ps = c .args .t1 .entries in
-    (omega arith, ap (λ n. anyOf (missesBy n ps) ps) (c .pre .1) ∙ misses-places (c .args .t1) (c .pre .0))
+loop-holds c = (omega arith, misses-places (c .args .t1) (c .pre .0 .0))
 
 mul-e : tie.Need-mul-e Inv-loop μ-loop
 mul-e c = search needs
@@ -32,15 +36,35 @@ mul-e c = search needs
 element-copy-out-e : tie.Need-element-copy-out-e Inv-loop μ-loop
 element-copy-out-e c = search needs
 
+mul-misses-deadline : tie.Need-mul-misses-deadline Inv-loop μ-loop
+mul-misses-deadline c = search needs
+
+array-read-misses-deadline : tie.Need-array-read-misses-deadline Inv-loop μ-loop
+array-read-misses-deadline c = search needs
+
 misses-deadline-requires : tie.Need-misses-deadline-requires Inv-loop μ-loop
 misses-deadline-requires c κs = search needs
 
+-- the place of the turn, and what is said of its entry
+within : (c : tie.After-misses-deadline Inv-loop μ-loop)
+    → c .before .before .before .loop .i < length (c .before .before .before .before .args .t1 .entries)
+within c =
+    let s = c .before .before .before .before in
+    used-inside (s .args .t1) (s .good .0) (s .pre .0 .1) (c .before .before .loop-test .taken)
+
+found : (c : tie.After-misses-deadline Inv-loop μ-loop) → (let l = c .before .before .before in let t = l .before .args .t1 in
+    c .misses-deadline .result ≡ missesIn t (getD (t .entries) (l .loop .i) freeEntry))
+found c =
+    let l = c .before .before .before in
+    let t = l .before .args .t1 in
+    c .misses-deadline .ensures
+    ∙ ap (λ n. missesWith n (getD (t .entries) (l .loop .i) freeEntry))
+    (ap (λ ns. getD ns (l .loop .i) 0) (l .before .pre .1) ∙ map-at _ (t .entries) (l .loop .i) freeEntry 0 (within c))
+
 returns : tie.Need-returns Inv-loop μ-loop
 returns c =
-    let s = c .before .before .before .before .before in
-    let f = missesBy (s .args .capacity .0) (s .args .t1 .entries) in
-    let h = inside (s .args .t1) (s .good .0) (c .before .before .before .loop-test .taken) in
-    any-found f _ _ (c .before .before .before .before .loop .inv .1) _ h (c .before .misses-deadline .ensures) (c .if1 .taken)
+    let l = c .before .before .before .before in
+    any-found (missesIn (l .before .args .t1)) _ _ (l .loop .inv .1) freeEntry (within (c .before)) (found (c .before)) (c .if1 .taken)
 
 add-i : tie.Need-add-i Inv-loop μ-loop
 add-i c = search needs
@@ -50,17 +74,18 @@ loop-less c = search needs
 
 loop-again : tie.Need-loop-again Inv-loop μ-loop
 loop-again c =
-    let s = c .before .before .before .before .before in
-    let f = missesBy (s .args .capacity .0) (s .args .t1 .entries) in
-    let h = inside (s .args .t1) (s .good .0) (c .before .before .before .loop-test .taken) in
-    let so-far = c .before .before .before .before .loop .inv .1 in
-    (omega arith, any-passed f _ _ so-far _ h (c .before .misses-deadline .ensures) (c .if1 .left))
+    let l = c .before .before .before .before in (
+      omega arith,
+      any-passed (missesIn (l .before .args .t1)) _ _ (l .loop .inv .1) freeEntry (within (c .before)) (found (c .before)) (c .if1 .left),
+    )
 
 returns-2 : tie.Need-returns-2 Inv-loop μ-loop
 returns-2 c =
-    let s = c .before .before in
-    let f = missesBy (s .args .capacity .0) (s .args .t1 .entries) in
-    any-ended f _ _ (c .before .loop .inv .1) (past (s .args .t1) (s .good .0) (c .loop-test .left))
+    let l = c .before in
+    let s = l .before in
+    let t = s .args .t1 in
+    sym (spare-any freeEntry (missesIn t) refl (l .loop .i) (t .entries) (used-rest t (s .good .0) (s .pre .0 .1) (l .loop .inv .0) (c .loop-test .left)))
+    ∙ l .loop .inv .1
 
 pub misses-spec : {M : Type 1} → statement M
 misses-spec =
@@ -71,6 +96,8 @@ misses-spec =
     loop-holds
     mul-e
     element-copy-out-e
+    mul-misses-deadline
+    array-read-misses-deadline
     misses-deadline-requires
     returns
     add-i

@@ -1,49 +1,181 @@
-use mathlib.Core.Path.{ap, _∙_}
-use mathlib.Core.List.{_++_}
-use Prim.Native.Nat.{_*_}
-use lib.ListN.{length, drop}
+use mathlib.Core.Path.{_≡_, refl, sym, ap, ap₂, subst, _∙_}
+use mathlib.Core.List.{_++_, map}
+use Prim.Native.Nat.{_*_, _-_, _≤_, _<_}
+use native.Mathlib.Omega.{arith}
+use lib.ListN.{length, drop, getD}
 use denote.Ref.{now}
+use Rattle.lists.specs.All.{All, all-at}
+use Rattle.model.specs.Entries.{freeEntry}
+use Rattle.model.specs.declared.Entry.{Entry}
+use Rattle.rules.specs.Calls.{wordsOf, planOf}
+use Rattle.laws.specs.Ranks.{rank, rankMost}
+use Rattle.share.specs.Shares.{sharingOf, grantOf, grant-found}
+use Rattle.share.proofs.Known.{inside}
+use Rattle.order.specs.Listed.{orderOf}
+use Rattle.order.specs.TiePlaces.{ranks-most}
+use Rattle.plan.specs.Rows.{Rows, Spare, rowPlan}
+use Rattle.jobs.specs.Needs.{needBy, needsRow, Narrow}
+use Rattle.jobs.specs.Limits.{narrow-places}
+use Rattle.jobs.specs.Listing.{Listed, entryAt, place-inside}
+use Rattle.jobs.specs.Making.{Making, making-starts, making-more, making-ends}
+use Rattle.jobs.specs.JobRows.{order-listed, plan-made, spare-made}
 use borrow.Author.Needs.{needs}
-use Rattle.rules.specs.Calls.{wordsOf}
-use Rattle.jobs.specs.JobRows.{narrow-made, plan-made}
 use Rattle.jobs.proofs.write_jobs.Statement.{statement}
 use Rattle.jobs.proofs.write_jobs.Tie as tie
 
-ordered-requires : tie.Need-ordered-requires
-ordered-requires c κs = search needs
+abbrev Inv-loop : tie.InvT-loop
+Inv-loop s plan t o interval count streams₀ lengths₀ needs₀ k₀ streams lengths needs k = Making t o streams lengths needs k
 
-streams-of-requires : tie.Need-streams-of-requires
-streams-of-requires c κs = search needs
+abbrev μ-loop : tie.MeasureT-loop
+μ-loop s plan t o interval count streams₀ lengths₀ needs₀ k₀ streams lengths needs k = count - k
 
-lengths-of-requires : tie.Need-lengths-of-requires
-lengths-of-requires c κs = search needs
+ordered-requires : tie.Need-ordered-requires Inv-loop μ-loop
+ordered-requires c κs =
+    let s = c .before .before in
+    let k = s .pre .0 .1 in
+    (k .used .0, subst (All (λ r. r ≤ rankMost)) (sym (k .ranks)) (ranks-most (s .args .t1) (s .pre .0 .0)))
 
-needs-of-requires : tie.Need-needs-of-requires
-needs-of-requires c κs =
-    let s = c .before .before .before .before .before in
-    narrow-made (s .args .t) (s .pre .0) (s .pre .1 .0) (c .before .before .before .ordered .ensures)
+-- the order is that of the table's ranks
+order : (c : tie.After-ordered Inv-loop μ-loop) → (let s = c .before .before .before in
+    c .ordered .result ≡ orderOf (map rank (s .args .t1 .entries)) (s .args .q .used))
+order c =
+    let s = c .before .before .before in
+    c .ordered .ensures ∙ ap (λ rs. orderOf rs (s .args .q .used)) (s .pre .0 .1 .ranks)
 
-write-plan-requires : tie.Need-write-plan-requires
+listed : (c : tie.After-ordered Inv-loop μ-loop) → Listed (c .ordered .result)
+listed c =
+    let s = c .before .before .before in
+    order-listed (s .args .t1) (s .pre .0 .0) (s .pre .0 .1 .used) (order c)
+
+loop-holds : tie.Need-loop-holds Inv-loop μ-loop
+loop-holds c =
+    let s = c .before .before .before .before in
+    making-starts (s .args .t1) (s .pre .0 .0) _
+
+row-inside : (c : tie.In-loop Inv-loop μ-loop) → c .before .loop .k < 32
+row-inside c = omega (arith, c .loop-test .taken, listed (c .before .before .before) .few)
+
+mul-i : tie.Need-mul-i Inv-loop μ-loop
+mul-i c = search (needs, row-inside c)
+
+element-copy-out-i : tie.Need-element-copy-out-i Inv-loop μ-loop
+element-copy-out-i c = search (needs, row-inside c)
+
+-- the row reads a place of the table
+listed-inside : (c : tie.After-i Inv-loop μ-loop) → (let l = c .before .before in
+    getD (l .before .before .ordered .result .places) (l .loop .k) 0 < 32)
+listed-inside c =
+    let l = c .before .before in
+    let o = l .before .before in
+    place-inside (o .before .before .before .args .t1) (o .ordered .result) (listed o) (l .loop .k) (c .before .loop-test .taken)
+
+mul-e : tie.Need-mul-e Inv-loop μ-loop
+mul-e c = search (needs, listed-inside c)
+
+element-copy-out-e : tie.Need-element-copy-out-e Inv-loop μ-loop
+element-copy-out-e c = search (needs, listed-inside c)
+
+job-length-requires : tie.Need-job-length-requires Inv-loop μ-loop
+job-length-requires c κs = search needs
+
+grant-at-requires : tie.Need-grant-at-requires Inv-loop μ-loop
+grant-at-requires c κs = listed-inside (c .before .before)
+
+-- what the entry of the row gets, and that its jobs have room
+abbrev own : tie.After-e Inv-loop μ-loop → Entry
+own c =
+    let l = c .before .before .before in
+    let o = l .before .before in
+    entryAt (o .before .before .before .args .t1) (getD (o .ordered .result .places) (l .loop .k) 0)
+
+found : (c : tie.After-grant-at Inv-loop μ-loop) → (let l = c .before .before .before .before .before in
+    let t = l .before .before .before .before .before .args .t1 in
+    c .grant-at .result ≡ grantOf (sharingOf t) (t .entries) (own (c .before .before)))
+found c =
+    let l = c .before .before .before .before .before in
+    let s = l .before .before .before .before .before in
+    let t = s .args .t1 in
+    c .grant-at .ensures ∙ grant-found t (s .pre .1 .0) _ (inside t (s .good .0) (listed-inside (c .before .before .before)))
+
+narrow : (c : tie.After-grant-at Inv-loop μ-loop) → (let l = c .before .before .before .before .before in
+    let t = l .before .before .before .before .before .args .t1 in
+    Narrow (sharingOf t) (t .entries) (own (c .before .before)))
+narrow c =
+    let l = c .before .before .before .before .before in
+    let s = l .before .before .before .before .before in
+    let t = s .args .t1 in
+    all-at (Narrow (sharingOf t) (t .entries)) (t .entries) freeEntry (narrow-places t (s .pre .0 .0)) _
+    (inside t (s .good .0) (listed-inside (c .before .before .before)))
+
+need-of-requires : tie.Need-need-of-requires Inv-loop μ-loop
+need-of-requires c κs = rw (found c) (narrow c .small)
+
+job-count-requires : tie.Need-job-count-requires Inv-loop μ-loop
+job-count-requires c κs = search needs
+
+row-of-requires : tie.Need-row-of-requires Inv-loop μ-loop
+row-of-requires c κs = rw (c .job-count .ensures) (narrow (c .before .before) .few)
+
+mul-streams : tie.Need-mul-streams Inv-loop μ-loop
+mul-streams c = search (needs, row-inside (c .before .before .before .before .before .before .before))
+
+array-write-streams : tie.Need-array-write-streams Inv-loop μ-loop
+array-write-streams c = search (needs, row-inside (c .before .before .before .before .before .before .before))
+
+mul-lengths : tie.Need-mul-lengths Inv-loop μ-loop
+mul-lengths c = search (needs, row-inside (c .before .before .before .before .before .before .before))
+
+array-write-lengths : tie.Need-array-write-lengths Inv-loop μ-loop
+array-write-lengths c = search (needs, row-inside (c .before .before .before .before .before .before .before))
+
+mul-needs : tie.Need-mul-needs Inv-loop μ-loop
+mul-needs c = search (needs, row-inside (c .before .before .before .before .before .before .before))
+
+array-set-from-needs : tie.Need-array-set-from-needs Inv-loop μ-loop
+array-set-from-needs c = search (needs, row-inside (c .before .before .before .before .before .before .before))
+
+add-k : tie.Need-add-k Inv-loop μ-loop
+add-k c = search needs
+
+loop-less : tie.Need-loop-less Inv-loop μ-loop
+loop-less c = search needs
+
+loop-again : tie.Need-loop-again Inv-loop μ-loop
+loop-again c =
+    let g = c .before .before .before in
+    let l = g .before .before .before .before .before in
+    let o = l .before .before in
+    let need = c .before .before .need-of .ensures ∙ ap (λ x. needBy x (own (g .before .before))) (found g) in
+    making-more (o .before .before .before .args .t1) (o .ordered .result) (listed o) (l .loop .inv) (g .before .before .before .before .loop-test .taken)
+    refl (g .before .job-length .ensures) (c .row-of .ensures ∙ ap₂ needsRow (c .before .job-count .ensures) need)
+
+-- the rows are the table's, and so is their plan
+made : (c : tie.After-loop Inv-loop μ-loop) → (let l = c .before .loop in let o = c .before .before .before in
+    let t = o .before .before .before .args .t1 in
+    Rows (t .interval .0) (l .streams) (l .lengths) (l .needs) × (rowPlan (t .interval .0) (l .streams) (l .lengths) (l .needs) ≡ planOf t)
+    × ((o .ordered .result .count ≤ 32) × Spare (t .interval .0) (o .ordered .result .count) (l .lengths) (l .needs)))
+made c =
+    let o = c .before .before .before in
+    let s = o .before .before .before in
+    let t = s .args .t1 in
+    let m = making-ends t (o .ordered .result) (listed o) (c .before .loop .inv) (c .loop-test .left) in
+    let u = s .pre .0 .1 .used in
+    let p = plan-made t (s .pre .0 .0) u (order o) (m .0) (m .1) (m .2) in
+    (p .0, p .1, spare-made t (s .pre .0 .0) u (order o) (m .0) (m .1) (m .2))
+
+write-plan-requires : tie.Need-write-plan-requires Inv-loop μ-loop
 write-plan-requires c κs =
-    let s = c .before .before .before .before .before .before .before in
-    let o = c .before .before .before .before .before .ordered .ensures in
-    let l = c .before .before in (
-      plan-made (s .args .t) (s .pre .0) (s .pre .1 .0) o (l .before .streams-of .ensures) (l .lengths-of .ensures)
-          (c .before .needs-of .ensures) .0,
-      search needs,
-    )
+    let m = made (c .before) in
+    ((m .0, search needs), m .2)
 
-same-length : tie.Need-same-length
+same-length : tie.Need-same-length Inv-loop μ-loop
 same-length c = search needs
 
-returns : tie.Need-returns
+returns : tie.Need-returns Inv-loop μ-loop
 returns c =
     let p = c .before .before in
     let s = p .before .before .before .before .before .before .before .before in
-    let l = p .before .before .before in
-    let os = l .before .before .before .ordered .ensures in
-    let plan = plan-made (s .args .t) (s .pre .0) (s .pre .1 .0) os (l .before .streams-of .ensures)
-    (l .lengths-of .ensures) (p .before .before .needs-of .ensures) .1 in
+    let plan = made (p .before .before) .1 in
     let e = p .write-plan .ensures in
     (e .0 ∙ ap length plan, e .1 .1 ∙ ap (λ rs. wordsOf rs ++ drop (4 * p .write-plan .result) (now (s .args .plan))) plan)
 
@@ -51,10 +183,28 @@ pub write-jobs-spec : {M : Type 1} → statement M
 write-jobs-spec =
     tie.close
     (tie.spec
+    Inv-loop
+    μ-loop
     ordered-requires
-    streams-of-requires
-    lengths-of-requires
-    needs-of-requires
+    loop-holds
+    mul-i
+    element-copy-out-i
+    mul-e
+    element-copy-out-e
+    job-length-requires
+    grant-at-requires
+    need-of-requires
+    job-count-requires
+    row-of-requires
+    mul-streams
+    array-write-streams
+    mul-lengths
+    array-write-lengths
+    mul-needs
+    array-set-from-needs
+    add-k
+    loop-less
+    loop-again
     write-plan-requires
     same-length
     returns)

@@ -1,10 +1,13 @@
 use mathlib.Core.Path.{_≡_, refl}
-use borrow.Author.Needs.{needs}
 use Rattle.lists.specs.Lists.{mostOf}
+use Rattle.rules.specs.Share.{capacity}
 use Rattle.rules.specs.Calls.{heldOf}
 use Rattle.laws.specs.Places.{Tidy}
 use Rattle.ahead.specs.Moved.{lifeOf}
+use Rattle.share.specs.Queues.{Used, queued-spare}
+use Rattle.share.specs.Shares.{piecesIn, pieces-found}
 use Rattle.lookahead.specs.Turn.{ahead, none-left, stops-even, stops-full, there, stops-late, next-less, next-tidy, next-same}
+use borrow.Author.Needs.{needs}
 use Rattle.lookahead.proofs.fits_ahead.Statement.{statement}
 use Rattle.lookahead.proofs.fits_ahead.Tie as tie
 
@@ -45,33 +48,45 @@ capacity-requires c κs = search needs
 leapt-requires : tie.Need-leapt-requires Inv-loop μ-loop
 leapt-requires c κs = search needs
 
-misses-requires : tie.Need-misses-requires Inv-loop μ-loop
-misses-requires c κs =
+-- the table that the leap leaves, and its pieces
+arrived : (c : tie.After-leapt Inv-loop μ-loop) → (let u = c .leapt .result in
+    Tidy u × (c .before .capacity .result .0 ≡ capacity (u .interval .0) (heldOf u)))
+arrived c =
     let h = c .before .before .before .before .before .before in
     let l = h .before .before .loop in
-    let found = h .before .any-held .ensures in
-    search (needs, there (l .now) found (h .if1 .taken) (l .inv .0) (c .leapt .ensures) (c .before .capacity .ensures))
+    there (l .now) (h .before .any-held .ensures) (h .if1 .taken) (l .inv .0) (c .leapt .ensures) (c .before .capacity .ensures)
+
+shared : (c : tie.After-pieces Inv-loop μ-loop) → (let u = c .before .before .leapt .result in
+    (Tidy u × Used (c .before .queue-of .result .used) u) × (c .pieces .result ≡ piecesIn u))
+shared c =
+    let a = arrived (c .before .before) in
+    let q = c .before .queue-of .ensures in
+    ((a .0, q .used), pieces-found _ (a .0) q (a .1) (c .pieces .ensures))
+
+queue-of-requires : tie.Need-queue-of-requires Inv-loop μ-loop
+queue-of-requires c κs = arrived c .0
+
+pieces-requires : tie.Need-pieces-requires Inv-loop μ-loop
+pieces-requires c κs = queued-spare (c .queue-of .ensures)
+
+misses-requires : tie.Need-misses-requires Inv-loop μ-loop
+misses-requires c κs = shared c
 
 returns-3 : tie.Need-returns-3 Inv-loop μ-loop
 returns-3 c =
-    let o = c .before .before .before .before in
+    let a = c .before .before .before .before in
+    let o = a .before .before in
     let h = o .before .before .before .before in
     let l = h .before .before .loop in
-    let e = c .before .before .leapt .ensures in
-    stops-late (l .now) (h .before .any-held .ensures) (h .if1 .taken) (l .inv .0) e (o .before .overfull .ensures) (o .if3 .left)
-    (c .before .misses .ensures) (c .if4 .taken) (l .inv .1)
+    stops-late (l .now) (h .before .any-held .ensures) (h .if1 .taken) (l .inv .0) (a .leapt .ensures) (o .before .overfull .ensures)
+    (o .if3 .left) (c .before .misses .ensures) (c .if4 .taken) (l .inv .1)
 
 advance-without-extras-requires : tie.Need-advance-without-extras-requires Inv-loop μ-loop
-advance-without-extras-requires c κs =
-    let a = c .before .before in
-    let h = a .before .before .before .before .before .before in
-    let l = h .before .before .loop in
-    let found = h .before .any-held .ensures in
-    search (needs, there (l .now) found (h .if1 .taken) (l .inv .0) (a .leapt .ensures) (a .before .capacity .ensures))
+advance-without-extras-requires c κs = shared (c .before .before)
 
 loop-less : tie.Need-loop-less Inv-loop μ-loop
 loop-less c =
-    let a = c .before .before .before in
+    let a = c .before .before .before .before .before in
     let h = a .before .before .before .before .before .before in
     let l = h .before .before .loop in
     next-less (l .now) (h .before .any-held .ensures) (h .if1 .taken) (l .inv .0) (a .leapt .ensures)
@@ -79,7 +94,7 @@ loop-less c =
 
 loop-again : tie.Need-loop-again Inv-loop μ-loop
 loop-again c =
-    let a = c .before .before .before in
+    let a = c .before .before .before .before .before in
     let o = a .before .before in
     let h = o .before .before .before .before in
     let l = h .before .before .loop in
@@ -109,6 +124,8 @@ fits-ahead-spec =
     returns-2
     capacity-requires
     leapt-requires
+    queue-of-requires
+    pieces-requires
     misses-requires
     returns-3
     advance-without-extras-requires

@@ -1,24 +1,31 @@
--- `plan::first_jobs` meets its contract. The invariant: the first i heads are those of the first i rows. The measure is the number of
--- rows left. Assumes nothing.
-use mathlib.Core.List.{[]}
+-- `plan::first_jobs` meets its contract. The invariant: the first i heads are those of the first i rows, and the others are 16. The
+-- measure is the number of rows left. Assumes nothing.
+use mathlib.Core.Path.{_≡_, sym, _∙_}
+use mathlib.Core.List.{map}
 use Prim.Native.Nat.{_-_}
+use native.Mathlib.Omega.{arith}
+use lib.ListN.{length, length-map}
 use borrow.Author.Needs.{needs}
 use denote.Array.{Array}
 use denote.Builtin.{u32}
-use Rattle.lists.specs.Loops.{Copied, copied-none, copied-more, copied-all}
-use Rattle.plan.specs.Heads.{firstLeft}
-use Rattle.plan.proofs.Known.{sized}
+use Rattle.lists.specs.Spare.{Filling, filling-none, filling-more, filling-all}
+use Rattle.plan.specs.Heads.{firstLeft, head-at, heads-spare}
+use Rattle.lists.proofs.Known.{sized}
 use Rattle.plan.proofs.first_jobs.Statement.{statement}
 use Rattle.plan.proofs.first_jobs.Tie as tie
 
 abbrev Inv-loop : tie.InvT-loop
-Inv-loop needs heads₀ i₀ heads i = Copied firstLeft needs 32 heads i
+Inv-loop rows needs heads₀ i₀ heads i = Filling 16 (map firstLeft needs) rows heads i
 
 abbrev μ-loop : tie.MeasureT-loop
-μ-loop needs heads₀ i₀ heads i = 32 - i
+μ-loop rows needs heads₀ i₀ heads i = rows - i
+
+-- how many heads there are
+heads-sized : (z : tie.Start Inv-loop μ-loop) → length (map firstLeft (z .args .t2)) ≡ 32
+heads-sized z = length-map (z .args .t2) firstLeft ∙ sized (Array u32 16) 32 (z .args .t2) (z .good .1 .0)
 
 loop-holds : tie.Need-loop-holds Inv-loop μ-loop
-loop-holds c = copied-none
+loop-holds c = filling-none (heads-sized c)
 
 mul-row : tie.Need-mul-row Inv-loop μ-loop
 mul-row c = search needs
@@ -43,15 +50,16 @@ loop-less c = search needs
 
 loop-again : tie.Need-loop-again Inv-loop μ-loop
 loop-again c =
-    let t = c .before .before in
-    let s = t .before .before in
-    let rows = sized (Array u32 16) 32 (s .args .t1) _ (s .good .0) in
-    copied-more rows (t .before .loop .inv) [] (t .loop-test .taken) (c .first-left .ensures)
+    let l = c .before .before .before in
+    let s = l .before in
+    let more = c .before .before .loop-test .taken in
+    filling-more (l .loop .inv) 0 (omega (arith, heads-sized s)) more (c .first-left .ensures ∙ sym (head-at (s .args .t2) (l .loop .i)))
 
 returns : tie.Need-returns Inv-loop μ-loop
 returns c =
-    let s = c .before .before in
-    copied-all (sized (Array u32 16) 32 (s .args .t1) _ (s .good .0)) (c .before .loop .inv) (c .loop-test .left)
+    let l = c .before in
+    let s = l .before in
+    filling-all (l .loop .inv) (c .loop-test .left) (heads-spare (s .args .rows) (s .args .t2) (s .pre .1))
 
 pub first-jobs-spec : {M : Type 1} → statement M
 first-jobs-spec =

@@ -8,7 +8,7 @@ use lib.ListN.{length, drop}
 use borrow.Author.Needs.{needs}
 use denote.Builtin.{u32}
 use Rattle.plan.specs.Heads.{firstLeft, left-here, left-later, left-none}
-use Rattle.plan.proofs.Known.{sized}
+use Rattle.lists.proofs.Known.{sized}
 use Rattle.plan.proofs.first_left.Statement.{statement}
 use Rattle.plan.proofs.first_left.Tie as tie
 
@@ -19,7 +19,7 @@ abbrev μ-loop : tie.MeasureT-loop
 μ-loop row j₀ j = 16 - j
 
 inside : (c : tie.In-loop Inv-loop μ-loop) → c .before .loop .j < length (c .before .before .args .t1)
-inside c = omega (arith, sized u32 16 (c .before .before .args .t1) _ (c .before .before .good .0))
+inside c = omega (arith, sized u32 16 (c .before .before .args .t1) (c .before .before .good .0))
 
 loop-holds : tie.Need-loop-holds Inv-loop μ-loop
 loop-holds c = (omega arith, sym (zero-add _))
@@ -46,7 +46,7 @@ returns-2 : tie.Need-returns-2 Inv-loop μ-loop
 returns-2 c =
     let e : c .before .loop .j ≡ 16 = omega arith in
     sym e
-    ∙ left-none _ _ (omega (arith, sized u32 16 (c .before .before .args .t1) _ (c .before .before .good .0)))
+    ∙ left-none _ _ (omega (arith, sized u32 16 (c .before .before .args .t1) (c .before .before .good .0)))
     ∙ sym (c .before .loop .inv .1)
 
 pub first-left-spec : {M : Type 1} → statement M

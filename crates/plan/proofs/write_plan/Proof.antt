@@ -1,59 +1,73 @@
--- `plan::write_plan` meets its contract. The invariant: what stands at t is a state of the plan, heads has the first unfinished job of
--- each row, and next, if it is ahead, is the next release. The measure is what is to come, so the turns are few. Assumes nothing.
+-- `plan::write_plan` meets its contract. The invariant: what stands at t is a state of the plan, heads and releases have the first
+-- unfinished job of each row, and next, if it is ahead, is the next release. The measure is what is to come, so the turns are few.
+-- Assumes nothing.
+use mathlib.Core.Logic.{⊎-elim}
 use mathlib.Core.Option.{none, some}
-use mathlib.Core.Path.{_≡_, sym, ap, subst, _∙_}
-use mathlib.Core.List.{List, [], map}
+use mathlib.Core.Path.{_≡_, sym, ap, subst, subst₂, _∙_}
+use mathlib.Core.List.{List, []}
 use Prim.Native.Nat.{ℕ, _≤_, _<_, _+_, _*_, _-_, min}
 use native.Mathlib.Omega.{arith}
-use lib.ListN.{length, getD, set}
+use lib.ListN.{length, getD, set, drop, length-map}
 use lib.Seq.{getD-set-same}
 use borrow.Author.Needs.{needs}
 use denote.Array.{Array}
 use denote.Builtin.{u32}
+use Rattle.lists.specs.All.{All, all-at}
 use Rattle.rules.specs.Slots.{Job, Run, choose}
 use Rattle.plan.specs.Rows.{rowJobs, rowPlan}
-use Rattle.plan.specs.RowLaws.{needAt, jobIn, Wide, plan-few}
-use Rattle.plan.specs.Heads.{heads-set, firstLeft}
-use Rattle.plan.specs.Places.{short}
+use Rattle.plan.specs.RowLaws.{needAt, withNeed, jobIn, Wide, plan-few}
+use Rattle.plan.specs.Heads.{heads-spare, firstLeft}
+use Rattle.plan.specs.Places.{Short, short, releaseOf}
+use Rattle.plan.specs.Kept.{Kept, kept-never, kept-changed, kept-same}
 use Rattle.plan.specs.Next.{next-more, next-most, next-same, nextOf}
 use Rattle.plan.specs.Turns.{turns}
-use Rattle.plan.specs.Steps.{begin, room, finish, none-chosen, job-chosen, idle-less, idle-step, job-less, job-step, State}
-use Rattle.plan.proofs.Known.{sized, wide}
+use Rattle.plan.specs.Steps.{State, begin, room, finish, chosen-needs, none-chosen, job-chosen}
+use Rattle.plan.specs.Steps.{idle-less, idle-step, job-less, job-step}
+use Rattle.lists.proofs.Known.{sized}
+use Rattle.plan.proofs.Known.{wide}
 use Rattle.plan.proofs.write_plan.Statement.{statement}
 use Rattle.plan.proofs.write_plan.Tie as tie
 
 abbrev Inv-loop : tie.InvT-loop
-Inv-loop b lengths plan₀ streams left₀ heads₀ pen₀ t₀ next₀ plan left heads pen t next =
+Inv-loop b rows plan₀ streams lengths left₀ heads₀ releases₀ pen₀ t₀ next₀ plan left heads releases pen t next =
     State b t streams lengths (rowPlan b streams lengths left₀) plan₀ plan left pen
-    × ((heads ≡ map firstLeft left) × (t < next → next ≡ nextOf b t lengths))
+    × (Kept rows lengths left heads releases × (t < next → next ≡ nextOf b t lengths))
 
 abbrev μ-loop : tie.MeasureT-loop
-μ-loop b lengths plan₀ streams left₀ heads₀ pen₀ t₀ next₀ plan left heads pen t next = turns b t (rowJobs streams lengths left)
+μ-loop b rows plan₀ streams lengths left₀ heads₀ releases₀ pen₀ t₀ next₀ plan left heads releases pen t next =
+    turns b t (rowJobs streams lengths left)
 
 -- the function's entry, from a turn of the loop
 abbrev entry : tie.At-loop Inv-loop μ-loop → tie.Start Inv-loop μ-loop
-entry l = l .before .before .before .before
+entry l = l .before .before .before .before .before
 
 abbrev total : tie.Start Inv-loop μ-loop → List Run
-total z = rowPlan (z .args .b) (z .args .t2) (z .args .lengths) (z .args .needs)
+total z = rowPlan (z .args .b) (z .args .t3) (z .args .t4) (z .args .needs)
 
 -- how long the arrays are
-streams-sized : (z : tie.Start Inv-loop μ-loop) → length (z .args .t2) ≡ 32
-streams-sized z = sized u32 32 (z .args .t2) _ (z .good .1 .0)
+streams-sized : (z : tie.Start Inv-loop μ-loop) → length (z .args .t3) ≡ 32
+streams-sized z = sized u32 32 (z .args .t3) (z .good .1 .1 .0)
 
-lengths-sized : (z : tie.Start Inv-loop μ-loop) → length (z .args .lengths) ≡ 32
-lengths-sized z = sized u32 32 (z .args .lengths) _ (z .good .1 .1 .0)
+lengths-sized : (z : tie.Start Inv-loop μ-loop) → length (z .args .t4) ≡ 32
+lengths-sized z = sized u32 32 (z .args .t4) (z .good .1 .1 .1 .0)
 
 rows-sized : (z : tie.Start Inv-loop μ-loop) → (length (z .args .needs) ≡ 32) × Wide (z .args .needs)
-rows-sized z = (sized (Array u32 16) 32 (z .args .needs) _ (z .good .1 .1 .1 .0), wide 32 (z .args .needs) _ (z .good .1 .1 .1 .0))
+rows-sized z = (sized (Array u32 16) 32 (z .args .needs) (z .good .1 .1 .1 .1 .0), wide 32 (z .args .needs) _ (z .good .1 .1 .1 .1 .0))
 
 few : (z : tie.Start Inv-loop μ-loop) → length (total z) ≤ 992
-few z = plan-few (z .pre .0) (rows-sized z .0) (rows-sized z .1)
+few z = plan-few (z .pre .0 .0) (rows-sized z .0) (rows-sized z .1)
 
 -- the words lent are as many as they were, and there is room for a record more
 spare : (l : tie.At-loop Inv-loop μ-loop)
     → (length (l .loop .plan) ≡ length (entry l .args .plan .now)) × (4 * l .loop .pen .count + 4 ≤ length (l .loop .plan))
-spare l = room (l .loop .inv .0) (few (entry l)) (entry l .pre .1)
+spare l = room (l .loop .inv .0) (few (entry l)) (entry l .pre .0 .1)
+
+-- lengths are short, and so is the time
+shorts : (z : tie.Start Inv-loop μ-loop) → Short (z .args .t4)
+shorts z = short (z .pre .0 .0 .short) (z .pre .0 .0 .each)
+
+soon : (w : tie.In-loop Inv-loop μ-loop) → w .before .loop .t ≤ 1024000
+soon w = omega (arith, w .loop-test .taken, entry (w .before) .pre .0 .0 .short)
 
 -- the next release is ahead
 coming : (w : tie.After-next-after Inv-loop μ-loop)
@@ -64,8 +78,8 @@ coming w =
     omega (
       arith,
       w .next-after .ensures,
-      next-more (z .args .b) (l .loop .t) (w .before .loop-test .taken) (z .pre .0 .each),
-      next-most (z .args .b) (l .loop .t) (z .args .lengths),
+      next-more (z .args .b) (l .loop .t) (w .before .loop-test .taken) (z .pre .0 .0 .each),
+      next-most (z .args .b) (l .loop .t) (z .args .t4),
     )
 
 -- the turn of a job, its place and its number
@@ -79,16 +93,17 @@ abbrev number : tie.Then1 Inv-loop μ-loop → ℕ
 number c = getD (turn c .loop .heads) (place c) 0
 
 abbrev jobsAt : tie.At-loop Inv-loop μ-loop → List Job
-jobsAt l = rowJobs (entry l .args .t2) (entry l .args .lengths) (l .loop .left)
+jobsAt l = rowJobs (entry l .args .t3) (entry l .args .t4) (l .loop .left)
 
 -- it is the job chosen, and one of its row's sixteen
 chosen : (c : tie.Then1 Inv-loop μ-loop) → let l = turn c in
-    (choose (l .loop .t) (jobsAt l) ≡ some (jobIn (entry l .args .t2) (entry l .args .lengths) (l .loop .left) (place c) (number c)))
+    (choose (l .loop .t) (jobsAt l) ≡ some (jobIn (entry l .args .t3) (entry l .args .t4) (l .loop .left) (place c) (number c)))
     × (number c < 16)
 chosen c =
     let l = turn c in
     let z = entry l in
-    job-chosen (l .loop .inv .0) (streams-sized z) (lengths-sized z) (short (z .pre .0 .short) (z .pre .0 .each)) (l .loop .inv .1 .0)
+    job-chosen (l .loop .inv .0) (streams-sized z) (lengths-sized z) (shorts z) (omega (arith, soon (c .before .before .before)))
+    (l .loop .inv .1 .0)
     (c .before .choose-place .ensures) (c .if1 .taken)
 
 -- what it needs, and how long it runs
@@ -99,7 +114,7 @@ abbrev job : tie.After-smaller Inv-loop μ-loop → tie.Then1 Inv-loop μ-loop
 job s = s .before .before
 
 ran : (s : tie.After-smaller Inv-loop μ-loop) → let l = turn (job s) in
-    (s .smaller .result ≡ min (need (job s)) (nextOf (entry l .args .b) (l .loop .t) (entry l .args .lengths) - l .loop .t))
+    (s .smaller .result ≡ min (need (job s)) (nextOf (entry l .args .b) (l .loop .t) (entry l .args .t4) - l .loop .t))
     × (l .loop .t + s .smaller .result ≤ job s .before .before .next-after .result)
 ran s =
     let l = turn (job s) in
@@ -107,41 +122,86 @@ ran s =
     let e : s .smaller .result ≡ min (need (job s)) (w .next-after .result - l .loop .t) = s .smaller .ensures in
     (e ∙ ap (λ m. min (need (job s)) (m - l .loop .t)) (w .next-after .ensures), omega (arith, coming w))
 
+-- where it has ended, the next job of its row is the first; where not, it is still
+kept : (c : tie.Joined2 Inv-loop μ-loop) → let o = job (c .before) in let l = turn o in
+    Kept (entry l .args .rows) (entry l .args .t4) (withNeed (l .loop .left) (place o) (number o) (need o - c .before .smaller .result))
+    (c .if2 .heads) (c .if2 .releases)
+kept c =
+    let s = c .before in
+    let o = job s in
+    let l = turn o in
+    let k = l .loop .inv .1 .0 in
+    let z = entry l in
+    let v = need o - s .smaller .result in
+    let row = set (getD (l .loop .left) (place o) []) (number o) v in
+    let r : place o < length (l .loop .left) = omega (arith, o .if1 .taken, l .loop .inv .0 .rows) in
+    let h : place o < length (l .loop .heads) = omega (arith, ap length (k .heads), length-map (l .loop .left) firstLeft) in
+    let q = chosen-needs (l .loop .t) (jobsAt l) (chosen o .0) in
+    ⊎-elim
+    (λ w.
+    subst₂ (Kept (z .args .rows) (z .args .t4) (set (l .loop .left) (place o) row)) (sym (w .4)) (sym (w .5))
+    (kept-changed k (place o) (number o) row q (w .2 .ensures ∙ ap firstLeft (getD-set-same (l .loop .left) (place o) row [] r))
+    (w .3 .ensures ∙ ap (releaseOf (getD (z .args .t4) (place o) 0)) (getD-set-same (l .loop .heads) (place o) _ 0 h))))
+    (λ w.
+    subst₂ (Kept (z .args .rows) (z .args .t4) (set (l .loop .left) (place o) row)) (sym (w .1)) (sym (w .2))
+    (kept-same k (place o) v q (omega (arith, ran s .0, w .0 .left))))
+    (c .if2 .came)
+
+abbrev after : tie.After-slice-known2 Inv-loop μ-loop → tie.Joined2 Inv-loop μ-loop
+after c = c .before .before .before .before
+
 abbrev run : tie.After-slice-known2 Inv-loop μ-loop → tie.After-smaller Inv-loop μ-loop
-run c = c .before .before .before .before .before .before
+run c = after c .before
 
 -- no job is chosen
 idle : (c : tie.Else1 Inv-loop μ-loop) → let l = c .before .before .before .before in choose (l .loop .t) (jobsAt l) ≡ none
 idle c =
     let l = c .before .before .before .before in
     let z = entry l in
-    none-chosen (l .loop .inv .0) (streams-sized z) (lengths-sized z) (short (z .pre .0 .short) (z .pre .0 .each)) (l .loop .inv .1 .0)
+    none-chosen (l .loop .inv .0) (streams-sized z) (lengths-sized z) (shorts z) (omega (arith, soon (c .before .before .before)))
+    (l .loop .inv .1 .0)
     (c .before .choose-place .ensures) (c .if1 .left)
 
 first-jobs-requires : tie.Need-first-jobs-requires Inv-loop μ-loop
-first-jobs-requires c κs = search needs
+first-jobs-requires c κs = (c .before .pre .1 .0, c .before .pre .1 .1 .needs)
+
+first-releases-requires : tie.Need-first-releases-requires Inv-loop μ-loop
+first-releases-requires c κs =
+    let z = c .before .before in
+    let spare = heads-spare (z .args .rows) (z .args .needs) (z .pre .1 .1 .needs) in
+    (shorts z, (z .pre .1 .0, subst (λ hs. All (λ h. h ≡ 16) (drop (z .args .rows) hs)) (sym (c .first-jobs .ensures)) spare))
 
 blank-pen-requires : tie.Need-blank-pen-requires Inv-loop μ-loop
 blank-pen-requires c κs = search needs
 
 loop-holds : tie.Need-loop-holds Inv-loop μ-loop
 loop-holds c =
-    let z = c .before .before .before in
+    let z = c .before .before .before .before in
     let a = z .args in
-    let s = begin (a .plan .now) (z .pre .0) (rows-sized z .0) (rows-sized z .1) in (
-      subst (State (a .b) 0 (a .t2) (a .lengths) (total z) (a .plan .now) (a .plan .now) (a .needs)) (sym (c .blank-pen .ensures)) s,
-      (c .before .first-jobs .ensures, λ h. absurd (omega arith)),
+    let s = begin (a .plan .now) (z .pre .0 .0) (rows-sized z .0) (rows-sized z .1) in (
+      subst (State (a .b) 0 (a .t3) (a .t4) (total z) (a .plan .now) (a .plan .now) (a .needs)) (sym (c .blank-pen .ensures)) s,
+      (
+        record {
+          heads = c .before .before .first-jobs .ensures;
+          releases = c .before .first-releases .ensures;
+          spare = z .pre .1 .1 .needs;
+        },
+        λ h. absurd (omega arith),
+      ),
     )
 
 next-after-requires : tie.Need-next-after-requires Inv-loop μ-loop
 next-after-requires c κs =
-    let z = entry (c .before) in
-    (c .loop-test .taken, (z .pre .0 .short, (z .pre .0 .each, c .before .loop .inv .1 .1)))
+    let z = entry (c .before) in (
+      (c .loop-test .taken, (z .pre .0 .0 .short, (z .pre .0 .0 .each, c .before .loop .inv .1 .1))),
+      (z .pre .1 .0, z .pre .1 .1 .lengths),
+    )
 
 choose-place-requires : tie.Need-choose-place-requires Inv-loop μ-loop
 choose-place-requires c κs =
-    let z = entry (c .before .before) in
-    short (z .pre .0 .short) (z .pre .0 .each)
+    let l = c .before .before in
+    let z = entry l in
+    ((soon (c .before), shorts z), (z .pre .1 .0, kept-never (l .loop .inv .1 .0)))
 
 mul-j : tie.Need-mul-j Inv-loop μ-loop
 mul-j c = search needs
@@ -182,11 +242,11 @@ index-1-left c = search needs
 index-2-left : tie.Need-index-2-left Inv-loop μ-loop
 index-2-left c = chosen (job c) .1
 
-mul-row : tie.Need-mul-row Inv-loop μ-loop
-mul-row c = search needs
+mul-first-left : tie.Need-mul-first-left Inv-loop μ-loop
+mul-first-left c = search needs
 
-array-copy-out-row : tie.Need-array-copy-out-row Inv-loop μ-loop
-array-copy-out-row c = search needs
+array-copy-out-first-left : tie.Need-array-copy-out-first-left Inv-loop μ-loop
+array-copy-out-first-left c = search needs
 
 first-left-requires : tie.Need-first-left-requires Inv-loop μ-loop
 first-left-requires c κs = search needs
@@ -197,6 +257,31 @@ mul-heads c = search needs
 array-write-heads : tie.Need-array-write-heads Inv-loop μ-loop
 array-write-heads c = search needs
 
+mul-release-of : tie.Need-mul-release-of Inv-loop μ-loop
+mul-release-of c = search needs
+
+array-read-release-of : tie.Need-array-read-release-of Inv-loop μ-loop
+array-read-release-of c = search needs
+
+mul-release-of-2 : tie.Need-mul-release-of-2 Inv-loop μ-loop
+mul-release-of-2 c = search needs
+
+array-read-release-of-2 : tie.Need-array-read-release-of-2 Inv-loop μ-loop
+array-read-release-of-2 c = search needs
+
+release-of-requires : tie.Need-release-of-requires Inv-loop μ-loop
+release-of-requires c κs =
+    let o = job (c .before .before .before) in
+    let z = entry (turn o) in
+    let h : place o < length (z .args .t4) = omega (arith, o .if1 .taken, lengths-sized z) in
+    all-at (λ T. T ≤ 1024000) (z .args .t4) 0 (shorts z) (place o) h
+
+mul-releases : tie.Need-mul-releases Inv-loop μ-loop
+mul-releases c = search needs
+
+array-write-releases : tie.Need-array-write-releases Inv-loop μ-loop
+array-write-releases c = search needs
+
 mul-extend-run : tie.Need-mul-extend-run Inv-loop μ-loop
 mul-extend-run c = search needs
 
@@ -204,19 +289,19 @@ array-read-extend-run : tie.Need-array-read-extend-run Inv-loop μ-loop
 array-read-extend-run c = search needs
 
 cast-extend-run : tie.Need-cast-extend-run Inv-loop μ-loop
-cast-extend-run c = record { fits = omega (arith, chosen (job (c .before .before .before)) .1) }
+cast-extend-run c = record { fits = omega (arith, chosen (job (c .before .before)) .1) }
 
 extend-run-requires : tie.Need-extend-run-requires Inv-loop μ-loop
 extend-run-requires c κs =
-    let s = c .before .before .before in
+    let s = c .before .before in
     let l = turn (job s) in
-    (spare l .1, (l .loop .inv .0 .ended, omega (arith, ran s .1, coming (job s .before .before), entry l .pre .0 .short)))
+    (spare l .1, (l .loop .inv .0 .ended, omega (arith, ran s .1, coming (job s .before .before), entry l .pre .0 .0 .short)))
 
 add-t : tie.Need-add-t Inv-loop μ-loop
 add-t c =
     let s = run c in
     let l = turn (job s) in
-    record { fits = omega (arith, ran s .1, coming (job s .before .before), entry l .pre .0 .short) }
+    record { fits = omega (arith, ran s .1, coming (job s .before .before), entry l .pre .0 .0 .short) }
 
 loop-less : tie.Need-loop-less Inv-loop μ-loop
 loop-less c =
@@ -224,7 +309,7 @@ loop-less c =
     let o = job s in
     let l = turn o in
     let z = entry l in
-    job-less (l .loop .inv .0) (streams-sized z) (lengths-sized z) (o .before .before .before .loop-test .taken) (z .pre .0 .each)
+    job-less (l .loop .inv .0) (streams-sized z) (lengths-sized z) (o .before .before .before .loop-test .taken) (z .pre .0 .0 .each)
     (place o) (number o) (s .smaller .result) (ran s .0) (o .if1 .taken) (chosen o .1) (chosen o .0)
 
 loop-again : tie.Need-loop-again Inv-loop μ-loop
@@ -237,17 +322,12 @@ loop-again c =
     let m = o .before .before .next-after .ensures in
     let t = l .loop .t in
     let n = s .smaller .result in
-    let row = set (getD (l .loop .left) (place o) []) (number o) (need o - n) in
-    let r : place o < length (l .loop .left) = omega (arith, o .if1 .taken, l .loop .inv .0 .rows) in
-    let head = c .before .before .before .before .first-left .ensures ∙ ap firstLeft (getD-set-same (l .loop .left) (place o) row [] r) in
     let wrote = c .before .before .extend-run .ensures in (
-      job-step (l .loop .inv .0) (streams-sized z) (lengths-sized z) (o .before .before .before .loop-test .taken) (z .pre .0 .each)
+      job-step (l .loop .inv .0) (streams-sized z) (lengths-sized z) (o .before .before .before .loop-test .taken) (z .pre .0 .0 .each)
           (place o) (number o) n (ran s .0) (o .if1 .taken) (chosen o .1) (chosen o .0) (wrote .1) (wrote .0),
       (
-        ap (set (l .loop .heads) (place o)) head
-            ∙ ap (λ hs. set hs (place o) (firstLeft row)) (l .loop .inv .1 .0)
-            ∙ sym (heads-set (l .loop .left) (place o) row),
-        λ h. m ∙ next-same (a .b) t (t + n) (a .lengths) (omega arith) (omega (arith, h, m)),
+        kept (after c),
+        λ h. m ∙ next-same (a .b) t (t + n) (a .t4) (omega arith) (omega (arith, h, m)),
       ),
     )
 
@@ -257,7 +337,7 @@ loop-less-2 c =
     let l = w .before .before in
     let z = entry l in
     subst (λ m. turns (z .args .b) m (jobsAt l) < turns (z .args .b) (l .loop .t) (jobsAt l)) (sym (w .next-after .ensures))
-    (idle-less (l .loop .inv .0) (streams-sized z) (lengths-sized z) (w .before .loop-test .taken) (z .pre .0 .each))
+    (idle-less (l .loop .inv .0) (streams-sized z) (lengths-sized z) (w .before .loop-test .taken) (z .pre .0 .0 .each))
 
 loop-again-2 : tie.Need-loop-again-2 Inv-loop μ-loop
 loop-again-2 c =
@@ -265,9 +345,9 @@ loop-again-2 c =
     let l = w .before .before in
     let z = entry l in
     let a = z .args in (
-      subst (λ m. State (a .b) m (a .t2) (a .lengths) (total z) (a .plan .now) (l .loop .plan) (l .loop .left) (l .loop .pen))
+      subst (λ m. State (a .b) m (a .t3) (a .t4) (total z) (a .plan .now) (l .loop .plan) (l .loop .left) (l .loop .pen))
           (sym (w .next-after .ensures))
-          (idle-step (l .loop .inv .0) (streams-sized z) (lengths-sized z) (w .before .loop-test .taken) (z .pre .0 .each) (idle c)),
+          (idle-step (l .loop .inv .0) (streams-sized z) (lengths-sized z) (w .before .loop-test .taken) (z .pre .0 .0 .each) (idle c)),
       (l .loop .inv .1 .0, λ h. absurd (omega arith)),
     )
 
@@ -292,6 +372,7 @@ write-plan-spec =
     Inv-loop
     μ-loop
     first-jobs-requires
+    first-releases-requires
     blank-pen-requires
     loop-holds
     next-after-requires
@@ -309,11 +390,18 @@ write-plan-spec =
     mul-left-2
     index-1-left
     index-2-left
-    mul-row
-    array-copy-out-row
+    mul-first-left
+    array-copy-out-first-left
     first-left-requires
     mul-heads
     array-write-heads
+    mul-release-of
+    array-read-release-of
+    mul-release-of-2
+    array-read-release-of-2
+    release-of-requires
+    mul-releases
+    array-write-releases
     mul-extend-run
     array-read-extend-run
     cast-extend-run

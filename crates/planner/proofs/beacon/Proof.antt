@@ -18,16 +18,23 @@ returns c =
     let q : ltb (length (now (c .before .before .args .plan))) (recordWords * mostRecords) ≡ true = lt-ltb _ _ (c .if1 .taken) in
     (rw q, (rw q, (rw q, rw q)))
 
-sharing-of-requires : tie.Need-sharing-of-requires
-sharing-of-requires c κs = formed-tidy (c .before .before .pre)
+queue-of-requires : tie.Need-queue-of-requires
+queue-of-requires c κs = formed-tidy (c .before .before .pre)
+
+shares-of-requires : tie.Need-shares-of-requires
+shares-of-requires c κs = (formed-tidy (c .before .before .before .pre), c .queue-of .ensures)
 
 write-jobs-requires : tie.Need-write-jobs-requires
-write-jobs-requires c κs = (formed-tidy (c .before .before .before .before .pre), (c .before .sharing-of .ensures, search needs))
+write-jobs-requires c κs =
+    let s = c .before in
+    let q = s .before in
+    ((formed-tidy (q .before .before .before .pre), q .queue-of .ensures), (s .shares-of .ensures, search needs))
 
 advance-requires : tie.Need-advance-requires
 advance-requires c κs =
     let s = c .before .before .before .before in
-    (formed-tidy (s .before .before .before .pre), s .sharing-of .ensures)
+    let q = s .before in
+    ((formed-tidy (q .before .before .before .pre), q .queue-of .ensures .used), s .shares-of .ensures)
 
 same-length : tie.Need-same-length
 same-length c = search needs
@@ -36,10 +43,10 @@ returns-2 : tie.Need-returns-2
 unfolding beacon
 returns-2 c =
     let j = c .before .before .before in
-    let s = j .before .before in
+    let s = j .before .before .before .before in
     let e = j .write-jobs .ensures in
-    let q = le-ltb _ _ (s .before .if1 .left) in
-    let a = s .before .before .before .args in
+    let q = le-ltb _ _ (s .if1 .left) in
+    let a = s .before .before .args in
     let t = a .t in
     (rw q, (rw q (e .0), (rw q (c .advance .ensures), rw q (e .1 ∙ ap (λ n. wordsOf (planOf t) ++ drop (4 * n) (now (a .plan))) (e .0)))))
 
@@ -48,7 +55,8 @@ beacon-spec =
     tie.close
     (tie.spec
     returns
-    sharing-of-requires
+    queue-of-requires
+    shares-of-requires
     write-jobs-requires
     advance-requires
     same-length

@@ -5,18 +5,18 @@ use Rattle.rows.proofs.unheld.Statement.{statement}
 use Rattle.rows.proofs.unheld.Tie as tie
 use Rattle.rows.proofs.unheld.Reads as reads
 use Rattle.rows.proofs.unheld.Lts as lts
-use Rattle.rows.proofs.with_byte.Reads as with-byte-reads
+use Rattle.rows.proofs.keep_byte.Reads as keep-byte-reads
 
-with-byte-requires : tie.Need-with-byte-requires
-with-byte-requires c κs = search needs
+keep-byte-requires : tie.Need-keep-byte-requires
+keep-byte-requires c κs = search needs
 
 returns : tie.Need-returns
 unfolding unheld
-returns c = rw (c .before .if1 .taken) (c .with-byte .ensures)
+returns c = rw (c .before .before .before .if1 .taken) (c .keep-byte .ensures)
 
 returns-2 : tie.Need-returns-2
 unfolding unheld
 returns-2 c = rw (c .if1 .left) refl
 
 pub unheld-spec : {M : Type 1} → statement M
-unheld-spec = tie.close (tie.spec with-byte-requires returns returns-2)
+unheld-spec = tie.close (tie.spec keep-byte-requires returns returns-2)

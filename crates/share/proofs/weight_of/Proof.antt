@@ -1,5 +1,5 @@
-use borrow.Author.Needs.{needs}
 use Rattle.model.proofs.Products.{product-fits}
+use borrow.Author.Needs.{needs}
 use Rattle.share.proofs.weight_of.Statement.{statement}
 use Rattle.share.proofs.weight_of.Tie as tie
 
@@ -8,9 +8,6 @@ job-count-requires c κs = search needs
 
 cast-jobs : tie.Need-cast-jobs
 cast-jobs c = search needs
-
-piece-slots-requires : tie.Need-piece-slots-requires
-piece-slots-requires c κs = search needs
 
 headroom-requires : tie.Need-headroom-requires
 headroom-requires c κs = search needs
@@ -27,11 +24,4 @@ returns c = cc
 pub weight-of-spec : {M : Type 1} → statement M
 weight-of-spec =
     tie.close
-    (tie.spec
-    job-count-requires
-    cast-jobs
-    piece-slots-requires
-    headroom-requires
-    cast-result
-    mul-result
-    returns)
+    (tie.spec job-count-requires cast-jobs headroom-requires cast-result mul-result returns)

@@ -1,29 +1,45 @@
-use mathlib.Core.Path.{_≡_, refl, ap, _∙_}
-use mathlib.Core.List.{List}
-use Prim.Native.Nat.{ℕ, _-_, _≤_}
+use mathlib.Core.Path.{_≡_, refl, sym, ap, _∙_}
+use mathlib.Core.List.{List, map}
+use Prim.Native.Nat.{ℕ, _-_, _≤_, _<_}
 use native.Mathlib.Omega.{arith}
-use borrow.Author.Needs.{needs}
+use lib.ListN.{length, getD}
 use Rattle.lists.specs.All.{all-at}
-use Rattle.lists.specs.Loops.{mapped, mapped-more, mapped-all}
+use Rattle.lists.specs.Loops.{mapped, mapped-more, map-at, map-with}
+use Rattle.lists.specs.Spare.{spare-mapped}
+use Rattle.model.specs.Entries.{freeEntry}
 use Rattle.model.specs.declared.Entry.{Entry}
 use Rattle.laws.specs.Closed.{takes}
 use Rattle.ahead.specs.Served.{later}
-use Rattle.share.proofs.Known.{inside, past}
+use Rattle.ahead.specs.Leap.{later-free}
+use Rattle.share.specs.Queues.{queued-spare, takes-found}
+use Rattle.share.proofs.Known.{used-inside, used-rest}
 use Rattle.advance.specs.Next.{WithinAmounts, withEntries, pieceOnly, pieces-within}
+use borrow.Author.Needs.{needs}
 use Rattle.lookahead.proofs.leap.skip.Statement.{statement}
 use Rattle.lookahead.proofs.leap.skip.Tie as tie
 
 abbrev laterBy : (n c : ℕ) → List Entry → Entry → Entry
 laterBy n c ps e = later n (takes c ps e) e
 
+-- the pieces are those of so many slots, m
 abbrev Inv-loop : tie.InvT-loop
-Inv-loop n slots t next₀ i₀ next i = (i ≤ 32) × (next ≡ withEntries t (mapped (laterBy n (slots .0) (t .entries)) i (t .entries)))
+Inv-loop n t used pieces next₀ i₀ next i =
+    (i ≤ used)
+    × ((m : ℕ) × (pieces ≡ map (takes m (t .entries)) (t .entries)) × (next ≡ withEntries t (mapped (laterBy n m (t .entries)) i (t .entries))))
 
 abbrev μ-loop : tie.MeasureT-loop
-μ-loop n slots t next₀ i₀ next i = 32 - i
+μ-loop n t used pieces next₀ i₀ next i = used - i
+
+queue-of-requires : tie.Need-queue-of-requires Inv-loop μ-loop
+queue-of-requires c κs = search needs
+
+pieces-requires : tie.Need-pieces-requires Inv-loop μ-loop
+pieces-requires c κs = queued-spare (c .queue-of .ensures)
 
 loop-holds : tie.Need-loop-holds Inv-loop μ-loop
-loop-holds c = (omega arith, refl)
+loop-holds c =
+    let s = c .before .before in
+    (omega arith, (s .args .slots .0, takes-found (s .args .t1) (s .pre) (c .before .queue-of .ensures) (s .args .slots .0) (c .pieces .ensures), refl))
 
 mul-e : tie.Need-mul-e Inv-loop μ-loop
 mul-e c = search needs
@@ -31,16 +47,35 @@ mul-e c = search needs
 element-copy-out-e : tie.Need-element-copy-out-e Inv-loop μ-loop
 element-copy-out-e c = search needs
 
-piece-slots-requires : tie.Need-piece-slots-requires Inv-loop μ-loop
-piece-slots-requires c κs = search needs
+mul-t15 : tie.Need-mul-t15 Inv-loop μ-loop
+mul-t15 c = search needs
+
+array-read-t21 : tie.Need-array-read-t21 Inv-loop μ-loop
+array-read-t21 c = search needs
+
+-- the place of the turn, and the piece of its entry
+within : (c : tie.After-e Inv-loop μ-loop)
+    → c .before .before .loop .i < length (c .before .before .before .before .before .args .t1 .entries)
+within c =
+    let q = c .before .before .before .before in
+    let s = q .before in
+    used-inside (s .args .t1) (s .good .0) (q .queue-of .ensures .used) (c .before .loop-test .taken)
+
+found : (c : tie.After-e Inv-loop μ-loop) → (let l = c .before .before in let t = l .before .before .before .args .t1 in
+    getD (l .before .pieces .result) (l .loop .i) 0 ≡ takes (l .loop .inv .1 .0) (t .entries) (getD (t .entries) (l .loop .i) freeEntry))
+found c =
+    let l = c .before .before in
+    let t = l .before .before .before .args .t1 in
+    ap (λ ns. getD ns (l .loop .i) 0) (l .loop .inv .1 .1) ∙ map-at _ (t .entries) (l .loop .i) freeEntry 0 (within c)
 
 later-requires : tie.Need-later-requires Inv-loop μ-loop
 later-requires c κs =
-    let s = c .before .before .before .before in
+    let l = c .before .before in
+    let s = l .before .before .before in
     let t = s .args .t1 in
-    let h = inside t (s .good .0) (c .before .before .loop-test .taken) in
-    let m = s .args .slots .0 in
-    rw (c .piece-slots .ensures) (all-at (λ e. WithinAmounts (pieceOnly m (t .entries) e) e) _ _ (pieces-within t (s .pre) m) _ h)
+    let m = l .loop .inv .1 .0 in
+    rw (found c)
+    (all-at (λ e. WithinAmounts (pieceOnly m (t .entries) e) e) (t .entries) freeEntry (pieces-within t (s .pre) m) _ (within c))
 
 mul-f : tie.Need-mul-f Inv-loop μ-loop
 mul-f c = search needs
@@ -56,21 +91,33 @@ loop-less c = search needs
 
 loop-again : tie.Need-loop-again Inv-loop μ-loop
 loop-again c =
-    let s = c .before .before .before .before .before in
+    let l = c .before .before .before in
+    let s = l .before .before .before in
     let t = s .args .t1 in
-    let h = inside t (s .good .0) (c .before .before .before .loop-test .taken) in (
+    let v = l .loop .inv .1 in (
       omega arith,
-      rw (c .later .ensures, c .before .piece-slots .ensures, c .before .before .before .before .loop .inv .1)
-          (ap (withEntries t) (mapped-more (laterBy (s .args .n) (s .args .slots .0) (t .entries)) (t .entries) _ _ h)),
+      (
+        v .0,
+        v .1,
+        rw (c .later .ensures, found (c .before), v .2)
+            (ap (withEntries t) (mapped-more (laterBy (s .args .n) (v .0) (t .entries)) (t .entries) _ freeEntry (within (c .before)))),
+      ),
     )
 
 returns : tie.Need-returns Inv-loop μ-loop
 returns c =
-    let s = c .before .before in
+    let l = c .before in
+    let p = l .before in
+    let s = p .before .before in
     let t = s .args .t1 in
-    let h = past t (s .good .0) (c .loop-test .left) in
-    c .before .loop .inv .1
-    ∙ ap (withEntries t) (mapped-all (laterBy (s .args .n) (s .args .slots .0) (t .entries)) (t .entries) _ h)
+    let v = l .loop .inv .1 in
+    let q = p .before .queue-of .ensures in
+    v .2
+    ∙ ap (withEntries t)
+    (spare-mapped freeEntry (laterBy (s .args .n) (v .0) (t .entries)) (later-free _ _ _) (l .loop .i) (t .entries)
+    (used-rest t (s .good .0) (q .used) (l .loop .inv .0) (c .loop-test .left))
+    ∙ map-with (later (s .args .n)) (takes (v .0) (t .entries)) (takes (s .args .slots .0) (t .entries)) (t .entries)
+    (sym (v .1) ∙ takes-found t (s .pre) q (s .args .slots .0) (p .pieces .ensures)))
 
 pub skip-spec : {M : Type 1} → statement M
 skip-spec =
@@ -78,10 +125,13 @@ skip-spec =
     (tie.spec
     Inv-loop
     μ-loop
+    queue-of-requires
+    pieces-requires
     loop-holds
     mul-e
     element-copy-out-e
-    piece-slots-requires
+    mul-t15
+    array-read-t21
     later-requires
     mul-f
     element-set-from-f

@@ -1,0 +1,94 @@
+-- Loops that stop before the end of an array, since all that is left there is spare: the same element again and again, to which the
+-- loop would do nothing. Assumes nothing.
+use mathlib.Core.Path.{_≡_, refl, sym, ap, ap₂, subst, _∙_}
+use mathlib.Core.Bool.{Bool, false, _||_}
+use mathlib.Core.List.{List, [], _∷_, _++_, map}
+use Prim.Native.Nat.{ℕ, zero, suc, _+_, _-_, _≤_, _<_}
+use native.Mathlib.Nat.{not-suc-le-zero, le-of-suc-le-suc}
+use native.Mathlib.Numerals.{add-one}
+use native.Mathlib.Omega.{arith}
+use lib.ListN.{length, take, drop, set, getD, replicate, length-drop}
+use Rattle.lists.specs.Lists.{sumOf, anyOf}
+use Rattle.lists.specs.All.{All, stop, and}
+use Rattle.lists.specs.Loops.{left-next}
+
+module _ {A : Type 0} (d : A) where
+  -- from place n on each is d
+  abbrev pub Spare : ℕ → List A → Type 0
+  Spare n xs = All (λ x. x ≡ d) (drop n xs)
+
+  -- one place more
+  pub spare-back : (n : ℕ) (xs : List A) (x : A) → n < length xs → getD xs n x ≡ d → Spare (n + 1) xs → Spare n xs
+  spare-back n xs x l e h = rw (left-next xs n x l) (and e h)
+
+  pub spare-map : {B : Type 0} (f : A → B) (n : ℕ) (xs : List A) → Spare n xs → All (λ y. y ≡ f d) (drop n (map f xs))
+  spare-map f zero [] h = stop
+  spare-map f zero (x ∷ xs) (and e h) = and (ap f e) (spare-map f zero xs h)
+  spare-map f (suc n) [] h = stop
+  spare-map f (suc n) (x ∷ xs) h = spare-map f n xs h
+
+  pub spare-sum : (f : A → ℕ) → f d ≡ 0 → (n : ℕ) (xs : List A) → Spare n xs → sumOf f (take n xs) ≡ sumOf f xs
+  spare-sum f z zero [] h = refl
+  spare-sum f z zero (x ∷ xs) (and e h) = omega (arith, ap f e, z, spare-sum f z zero xs h)
+  spare-sum f z (suc n) [] h = refl
+  spare-sum f z (suc n) (x ∷ xs) h = omega (arith, spare-sum f z n xs h)
+
+  -- a loop that replaces each element
+  pub spare-mapped : (f : A → A) → f d ≡ d → (n : ℕ) (xs : List A) → Spare n xs → map f (take n xs) ++ drop n xs ≡ map f xs
+  spare-mapped f z zero [] h = refl
+  spare-mapped f z zero (x ∷ xs) (and e h) = ap₂ (λ y l. y ∷ l) (e ∙ sym (ap f e ∙ z)) (spare-mapped f z zero xs h)
+  spare-mapped f z (suc n) [] h = refl
+  spare-mapped f z (suc n) (x ∷ xs) h = ap (λ l. f x ∷ l) (spare-mapped f z n xs h)
+
+  -- a search
+  pub spare-any : (p : A → Bool) → p d ≡ false → (n : ℕ) (xs : List A) → Spare n xs → anyOf p (drop n xs) ≡ false
+  spare-any p z zero [] h = refl
+  spare-any p z zero (x ∷ xs) (and e h) = ap₂ _||_ (ap p e ∙ z) (spare-any p z zero xs h)
+  spare-any p z (suc n) [] h = refl
+  spare-any p z (suc n) (x ∷ xs) h = spare-any p z n xs h
+
+  -- a loop that fills an array of m places with the elements of xs: the first i are there, and d behind them
+  abbrev pub begun : (m i : ℕ) → List A → List A
+  begun m i xs = take i xs ++ replicate (m - i) d
+
+  begun-suc : (i r : ℕ) (xs : List A) (z : A) → i < length xs
+      → set (take i xs ++ replicate (suc r) d) i (getD xs i z) ≡ take (suc i) xs ++ replicate r d
+  begun-suc i r [] z h = absurd (not-suc-le-zero h)
+  begun-suc zero r (x ∷ xs) z h = refl
+  begun-suc (suc i) r (x ∷ xs) z h = ap (λ l. x ∷ l) (begun-suc i r xs z (le-of-suc-le-suc h))
+
+  pub begun-more : {v : A} {ys : List A} (m i : ℕ) (xs : List A) (z : A) → length xs ≡ m → i < m → ys ≡ begun m i xs
+      → v ≡ getD xs i z → set ys i v ≡ begun m (i + 1) xs
+  begun-more m i xs z e l p q =
+      let up : m - i ≡ suc (m - (i + 1)) = omega arith in
+      rw (p, q, up, add-one i) (begun-suc i (m - suc i) xs z (omega arith))
+
+  begun-spare : (i r : ℕ) (xs : List A) → length (drop i xs) ≡ r → Spare i xs → take i xs ++ replicate r d ≡ xs
+  begun-spare zero r [] e h = rw (sym e)
+  begun-spare zero r (x ∷ xs) e (and q h) = rw (sym e) (ap₂ (λ y l. y ∷ l) (sym q) (begun-spare zero (length xs) xs refl h))
+  begun-spare (suc i) r [] e h = rw (sym e)
+  begun-spare (suc i) r (x ∷ xs) e h = ap (λ l. x ∷ l) (begun-spare i r xs e h)
+
+  pub begun-all : (m i : ℕ) (xs : List A) → length xs ≡ m → Spare i xs → begun m i xs ≡ xs
+  begun-all m i xs e h = begun-spare i (m - i) xs (length-drop i xs ∙ ap (λ k. k - i) e) h
+
+-- ---- such a loop, after i turns of n
+pub record Filling {A : Type 0} (d : A) (xs : List A) (n : ℕ) (ys : List A) (i : ℕ) : Type 0 where
+  pub inside : i ≤ n
+  pub so-far : ys ≡ begun d (length xs) i xs
+
+module _ {A : Type 0} {d : A} {xs : List A} {n : ℕ} where
+  pub filling-none : {m : ℕ} → length xs ≡ m → Filling d xs n (replicate m d) 0
+  filling-none {m} e =
+      let k : m ≡ length xs - 0 = omega arith in
+      record { inside = omega arith; so-far = ap (λ r. replicate r d) k }
+
+  module _ {ys : List A} {i : ℕ} (f : Filling d xs n ys i) where
+    pub filling-more : {v : A} (z : A) → n ≤ length xs → i < n → v ≡ getD xs i z → Filling d xs n (set ys i v) (i + 1)
+    filling-more z l h e =
+        record { inside = omega arith; so-far = begun-more d (length xs) i xs z refl (omega arith) (f .so-far) e }
+
+    pub filling-all : n ≤ i → Spare d n xs → ys ≡ xs
+    filling-all h q =
+        let e : n ≡ i = omega (arith, f .inside) in
+        f .so-far ∙ begun-all d (length xs) i xs refl (subst (λ k. Spare d k xs) e q)

@@ -1,0 +1,76 @@
+-- What is kept of each row as its jobs run: its first unfinished job, and when that is released. Assumes nothing.
+use mathlib.Core.Path.{_≡_, refl, sym, ap, _∙_}
+use mathlib.Core.List.{List, [], _∷_, map}
+use Prim.Native.Nat.{ℕ, zero, suc, _≤_, _<_}
+use native.Mathlib.Omega.{arith}
+use lib.ListN.{length, getD, set, drop, replicate}
+use lib.Seq.{map-set-same}
+use Rattle.lists.specs.All.{All, stop, and, head, tail}
+use Rattle.plan.specs.RowLaws.{needAt, withNeed, spare-set}
+use Rattle.plan.specs.Heads.{firstLeft, left-stays, head-at, heads-set, heads-spare}
+use Rattle.plan.specs.Places.{never, releaseOf, releasesOf}
+
+-- ---- the releases of the rows
+pub length-releases : (Ts hs : List ℕ) → length Ts ≡ length hs → length (releasesOf Ts hs) ≡ length hs
+unfolding releasesOf
+length-releases [] [] e = refl
+length-releases [] (h ∷ hs) e = absurd (omega arith)
+length-releases (T ∷ Ts) [] e = refl
+length-releases (T ∷ Ts) (h ∷ hs) e = omega (arith, length-releases Ts hs (omega arith))
+
+pub release-at : (Ts hs : List ℕ) (i : ℕ) → i < length Ts → i < length hs
+    → getD (releasesOf Ts hs) i 0 ≡ releaseOf (getD Ts i 0) (getD hs i 0)
+unfolding releasesOf
+release-at [] hs i h k = absurd (omega arith)
+release-at (T ∷ Ts) [] i h k = absurd (omega arith)
+release-at (T ∷ Ts) (x ∷ hs) zero h k = refl
+release-at (T ∷ Ts) (x ∷ hs) (suc i) h k = release-at Ts hs i (omega arith) (omega arith)
+
+releases-set : (Ts hs : List ℕ) (i h : ℕ) → releasesOf Ts (set hs i h) ≡ set (releasesOf Ts hs) i (releaseOf (getD Ts i 0) h)
+unfolding releasesOf
+releases-set [] hs i h = refl
+releases-set (T ∷ Ts) [] i h = refl
+releases-set (T ∷ Ts) (x ∷ hs) zero h = refl
+releases-set (T ∷ Ts) (x ∷ hs) (suc i) h = ap (λ l. releaseOf T x ∷ l) (releases-set Ts hs i h)
+
+-- where no job is left
+pub releases-spare : (rows : ℕ) (Ts hs : List ℕ) → All (λ h. h ≡ 16) (drop rows hs) → All (λ r. r ≡ never) (drop rows (releasesOf Ts hs))
+unfolding releasesOf releaseOf
+releases-spare zero [] hs q = stop
+releases-spare zero (T ∷ Ts) [] q = stop
+releases-spare zero (T ∷ Ts) (h ∷ hs) q = and (ap (releaseOf T) (head q)) (releases-spare zero Ts hs (tail q))
+releases-spare (suc n) [] hs q = stop
+releases-spare (suc n) (T ∷ Ts) [] q = stop
+releases-spare (suc n) (T ∷ Ts) (h ∷ hs) q = releases-spare n Ts hs q
+
+-- ---- heads and releases as the jobs run; the rows from `rows` on need nothing
+pub record Kept (rows : ℕ) (Ts : List ℕ) (nss : List (List ℕ)) (hs rs : List ℕ) : Type 0 where
+  pub heads : hs ≡ map firstLeft nss
+  pub releases : rs ≡ releasesOf Ts hs
+  pub spare : All (λ ns. ns ≡ replicate 16 0) (drop rows nss)
+
+module _ {rows : ℕ} {Ts : List ℕ} {nss : List (List ℕ)} {hs rs : List ℕ} (k : Kept rows Ts nss hs rs) where
+  pub kept-never : All (λ r. r ≡ never) (drop rows rs)
+  kept-never = rw (k .releases, k .heads) (releases-spare rows Ts (map firstLeft nss) (heads-spare rows nss (k .spare)))
+
+  -- a row that needs something is changed
+  pub kept-changed : (i j : ℕ) (ns : List ℕ) {h r : ℕ} → 1 ≤ needAt nss i j → h ≡ firstLeft ns → r ≡ releaseOf (getD Ts i 0) h
+      → Kept rows Ts (set nss i ns) (set hs i h) (set rs i r)
+  kept-changed i j ns {h} {r} q e f =
+      record {
+        heads = rw (k .heads, e) (sym (heads-set nss i ns));
+        releases = rw (k .releases, f) (sym (releases-set Ts hs i h));
+        spare = spare-set rows nss i j ns q (k .spare);
+      }
+
+  -- the first unfinished job of a row has run, and still needs something
+  pub kept-same : (i v : ℕ) → let j = getD hs i 0 in 1 ≤ needAt nss i j → 1 ≤ v → Kept rows Ts (withNeed nss i j v) hs rs
+  kept-same i v q l =
+      let ns : List ℕ = getD nss i [] in
+      let j : getD hs i 0 ≡ firstLeft ns = ap (λ xs. getD xs i 0) (k .heads) ∙ head-at nss i in
+      let same : firstLeft (set ns (getD hs i 0) v) ≡ firstLeft ns = rw j (left-stays ns v l) in
+      record {
+        heads = k .heads ∙ sym (map-set-same firstLeft nss i (set ns (getD hs i 0) v) [] same);
+        releases = k .releases;
+        spare = spare-set rows nss i (getD hs i 0) _ q (k .spare);
+      }
