@@ -107,7 +107,10 @@ pub fn advance(t: Table, used: usize, s: Shares) -> Table
     let mut next = t;
     for i in 0..used {
         let e = t.entries[i];
-        let g = share::grant_at(s, i);
+        let g = Granted {
+            piece: Slots(s.pieces[i]),
+            extra: Slots(s.extras[i]),
+        };
         let n = after_grant(e, g);
         next.entries[i] = n;
     }

@@ -12,6 +12,7 @@ ghost use Rattle.share.specs.Shares.{sharingOf, sharesOf};
 ghost use Rattle.jobs.specs.Needs.{needBy, needsRow, rowBy};
 ghost use Rattle.jobs.specs.Listing.{Listed, rowsIn};
 use model::Entry;
+use model::Slots;
 use model::Table;
 use order::Order;
 use share::Granted;
@@ -62,7 +63,11 @@ pub fn write_jobs(t: Table, q: Queue, s: Shares, plan: &mut [u32]) -> usize
         let i = o.places[k];
         let e = t.entries[i];
         let length = share::job_length(interval, e);
-        let need = need_of(e, share::grant_at(s, i));
+        let g = Granted {
+            piece: Slots(s.pieces[i]),
+            extra: Slots(s.extras[i]),
+        };
+        let need = need_of(e, g);
         let row = row_of(share::job_count(e), need);
         streams[k] = e.stream;
         lengths[k] = length.0;

@@ -63,6 +63,13 @@ piecesAt c ranks owed (k ∷ ks) (o ∷ os) = pieceOf c ranks owed k o ∷ piece
 abbrev pub piecesOf : (c : ℕ) (ranks owed : List ℕ) → List ℕ
 piecesOf c ranks owed = piecesAt c ranks owed ranks owed
 
+-- arrays of ranks and of amounts of which only the first places are used
+pub record Queueing (ranks owed : List ℕ) (used : ℕ) : Type 0 where
+  pub ranked : used ≤ length ranks
+  pub short : used ≤ 32
+  pub room : used ≤ length owed
+  pub spare : Spare 0 used owed
+
 -- the queue of a table
 pub record Queued (t : Table) (q : Queue) : Type 0 where
   pub used : Used (q .used) t

@@ -45,15 +45,19 @@ grantOf s ps e =
 abbrev pub piecesIn : Table → List ℕ
 piecesIn t = map (takes (capacity (t .interval .0) (heldOf t)) (t .entries)) (t .entries)
 
--- the extra for L and W
-abbrev pub extraIn : (L W : ℕ) → Table → Entry → ℕ
-extraIn L W t e = extra L W (headroom e (takes (capacity (t .interval .0) (heldOf t)) (t .entries) e))
+-- d of each
+abbrev pub roomIn : Table → Entry → ℕ
+roomIn t e = headroom e (takes (capacity (t .interval .0) (heldOf t)) (t .entries) e)
 
-pub extra-free : (L W : ℕ) (t : Table) → extraIn L W t freeEntry ≡ 0
-extra-free L W t = omega (arith, extra-le L W 0)
+abbrev pub roomsIn : Table → List ℕ
+roomsIn t = map (roomIn t) (t .entries)
 
+pub extra-none : (L W : ℕ) → extra L W 0 ≡ 0
+extra-none L W = omega (arith, extra-le L W 0)
+
+-- the extras for L and W
 abbrev pub extrasBy : (L W : ℕ) → Table → List ℕ
-extrasBy L W t = map (extraIn L W t) (t .entries)
+extrasBy L W t = map (λ e. extra L W (roomIn t e)) (t .entries)
 
 abbrev pub sharesOf : Table → Shares
 sharesOf t =
@@ -61,12 +65,12 @@ sharesOf t =
     record { pieces = piecesIn t; extras = extrasBy (s .remains .0) (s .weight) t }
 
 -- what the shares have for a place is what its entry gets
-pub grant-found : (t : Table) {s : Shares} → s ≡ sharesOf t → (i : ℕ) → i < length (t .entries)
-    → granted (getD (s .pieces) i 0) (getD (s .extras) i 0) ≡ grantOf (sharingOf t) (t .entries) (getD (t .entries) i freeEntry)
-grant-found t {s} e i h =
-    ap₂ granted
-    (ap (λ (x : Shares). getD (x .pieces) i 0) e ∙ map-at _ (t .entries) i freeEntry 0 h)
-    (ap (λ (x : Shares). getD (x .extras) i 0) e ∙ map-at _ (t .entries) i freeEntry 0 h)
+module _ (t : Table) {s : Shares} (e : s ≡ sharesOf t) (i : ℕ) (h : i < length (t .entries)) where
+  pub piece-found : getD (s .pieces) i 0 ≡ grantOf (sharingOf t) (t .entries) (getD (t .entries) i freeEntry) .piece .0
+  piece-found = ap (λ (x : Shares). getD (x .pieces) i 0) e ∙ map-at _ (t .entries) i freeEntry 0 h
+
+  pub extra-found : getD (s .extras) i 0 ≡ grantOf (sharingOf t) (t .entries) (getD (t .entries) i freeEntry) .extra .0
+  extra-found = ap (λ (x : Shares). getD (x .extras) i 0) e ∙ map-at _ (t .entries) i freeEntry 0 h
 
 -- what a program finds of a table's queue
 module _ (t : Table) (w : Tidy t) {q : Queue} (k : Queued t q) where

@@ -1,6 +1,7 @@
 // What each request gets of an interval: steps A to C of document 01, "One beacon", over a table's 32 places.
 // Nothing here sorts: what is owed at lower ranks is added up, place by place. The loops stop after the last place that is held.
 ghost use mathlib.Core.Bool.{cond};
+ghost use mathlib.Core.List.{map};
 ghost use mathlib.Core.Path.{_≡_};
 ghost use Prim.Native.Nat.{_+_, _*_, _-_, _≤_, _<_, min};
 ghost use lib.Dec.{ltb};
@@ -12,8 +13,8 @@ ghost use Rattle.rules.specs.Share.{stepB, headroom, jobCount, weight, extra};
 ghost use Rattle.rules.specs.Slots.{jobLength};
 ghost use Rattle.rules.specs.Calls.{heldOf};
 ghost use Rattle.laws.specs.Places.{Tidy};
-ghost use Rattle.share.specs.Queues.{Used, owedTo, owedBelow, pieceOf, piecesOf, Queued};
-ghost use Rattle.share.specs.Shares.{granted, grantOf, piecesIn, extrasBy, sharesOf};
+ghost use Rattle.share.specs.Queues.{Used, owedTo, owedBelow, pieceOf, piecesOf, Queueing, Queued};
+ghost use Rattle.share.specs.Shares.{piecesIn, roomsIn, sharesOf};
 use model::Entry;
 use model::Slots;
 use model::Table;
@@ -185,9 +186,9 @@ fn owed_if_lower(owed: u32, rank: u64, own: u64) -> u32
 }
 
 // What is owed at lower ranks than one's own.
-fn owed_below(used: usize, ranks: [u64; 32], owed: [u32; 32], own: u64) -> u64
-    requires { ⌜ (used ≤ 32) × Spare 0 used owed ⌝ }
-    ensures { λ r. ⌜ r ≡ owedBelow own ranks owed ⌝ }
+fn owed_below(ranks: &[u64], owed: &[u32], used: usize, own: u64) -> u64
+    requires { ⌜ Queueing (now ranks) (now owed) used ⌝ }
+    ensures { λ r. ⌜ r ≡ owedBelow own (now (ranks .entry)) (now (owed .entry)) ⌝ }
 {
     let mut all: u64 = 0;
     for i in 0..used {
@@ -197,16 +198,16 @@ fn owed_below(used: usize, ranks: [u64; 32], owed: [u32; 32], own: u64) -> u64
 }
 
 // The smaller of what is owed at a place and what lower ranks leave. Where nothing is owed the others are not looked at.
-fn piece_at(used: usize, ranks: [u64; 32], owed: [u32; 32], capacity: Slots, i: usize) -> u32
-    requires { ⌜ (used ≤ 32) × Spare 0 used owed ⌝ }
-    requires { ⌜ i < 32 ⌝ }
-    ensures { λ r. ⌜ r ≡ pieceOf (capacity .0) ranks owed (getD ranks i 0) (getD owed i 0) ⌝ }
+fn piece_at(ranks: &[u64], owed: &[u32], used: usize, capacity: Slots, i: usize) -> u32
+    requires { ⌜ Queueing (now ranks) (now owed) used × (i < used) ⌝ }
+    ensures { λ r. let ks = now (ranks .entry) in let os = now (owed .entry) in
+        ⌜ r ≡ pieceOf (capacity .0) ks os (getD ks i 0) (getD os i 0) ⌝ }
 {
     let own = owed[i];
     if own == 0 {
         return 0;
     }
-    let rest = left_of(capacity, owed_below(used, ranks, owed, ranks[i]));
+    let rest = left_of(capacity, owed_below(ranks, owed, used, ranks[i]));
     smaller(own, rest.0)
 }
 
@@ -220,7 +221,7 @@ pub fn pieces(q: Queue, capacity: Slots) -> [u32; 32]
     let owed = q.owed;
     let mut pieces = [0u32; 32];
     for i in 0..used {
-        pieces[i] = piece_at(used, ranks, owed, capacity, i);
+        pieces[i] = piece_at(&ranks, &owed, used, capacity, i);
     }
     pieces
 }
@@ -242,25 +243,33 @@ pub fn headroom(e: Entry, piece: Slots) -> Slots
     Slots(0)
 }
 
-fn weight_of(e: Entry, piece: Slots) -> u64
-    ensures { λ r. ⌜ r ≡ jobCount e * headroom e (piece .0) ⌝ }
+fn weight_of(e: Entry, room: Slots) -> u64
+    ensures { λ r. ⌜ r ≡ jobCount e * room .0 ⌝ }
 {
     let jobs = job_count(e) as u64;
-    let room = headroom(e, piece);
     jobs * (room.0 as u64)
 }
 
-fn weight(t: Table, used: usize, pieces: [u32; 32]) -> u64
+// What each place may still get, and W.
+struct Rooms {
+    rooms: [u32; 32],
+    weight: u64,
+}
+
+fn rooms_of(t: Table, used: usize, pieces: [u32; 32]) -> Rooms
     requires { ⌜ Tidy t × Used used t ⌝ }
     requires { ⌜ pieces ≡ piecesIn t ⌝ }
-    ensures { λ r. ⌜ r ≡ weight (stepB (t .interval .0) (heldOf t)) (heldOf t) ⌝ }
+    ensures { λ r. ⌜ (r .rooms ≡ roomsIn t) × (r .weight ≡ weight (stepB (t .interval .0) (heldOf t)) (heldOf t)) ⌝ }
 {
-    let mut all: u64 = 0;
+    let mut rooms = [0u32; 32];
+    let mut weight: u64 = 0;
     for i in 0..used {
         let e = t.entries[i];
-        all = all + weight_of(e, Slots(pieces[i]));
+        let room = headroom(e, Slots(pieces[i]));
+        rooms[i] = room.0;
+        weight = weight + weight_of(e, room);
     }
-    all
+    Rooms { rooms, weight }
 }
 
 // The part of what remains is no more than the headroom, so it has 32 bits as well.
@@ -286,16 +295,14 @@ pub struct Sharing {
     pub weight: u64,
 }
 
-fn extras(t: Table, used: usize, pieces: [u32; 32], s: Sharing) -> [u32; 32]
-    requires { ⌜ Used used t ⌝ }
-    requires { ⌜ pieces ≡ piecesIn t ⌝ }
-    ensures { λ r. ⌜ r ≡ extrasBy (s .remains .0) (s .weight) t ⌝ }
+fn extras_of(used: usize, rooms: [u32; 32], s: Sharing) -> [u32; 32]
+    requires { ⌜ (used ≤ 32) × Spare 0 used rooms ⌝ }
+    ensures { λ r. ⌜ r ≡ map (extra (s .remains .0) (s .weight)) rooms ⌝ }
 {
     let remains = s.remains;
     let mut extras = [0u32; 32];
     for i in 0..used {
-        let e = t.entries[i];
-        let x = extra(remains, s.weight, headroom(e, Slots(pieces[i])));
+        let x = extra(remains, s.weight, Slots(rooms[i]));
         extras[i] = x.0;
     }
     extras
@@ -318,14 +325,15 @@ pub fn shares_of(t: Table, q: Queue) -> Shares
     let owed = q.owed;
     let capacity = capacity(t);
     let pieces = pieces(q, capacity);
-    let remains = left_of(capacity, owed_below(used, ranks, owed, u64::MAX));
-    let weight = weight(t, used, pieces);
+    let remains = left_of(capacity, owed_below(&ranks, &owed, used, u64::MAX));
+    let r = rooms_of(t, used, pieces);
+    let rooms = r.rooms;
     let s = Sharing {
         capacity,
         remains,
-        weight,
+        weight: r.weight,
     };
-    let extras = extras(t, used, pieces, s);
+    let extras = extras_of(used, rooms, s);
     Shares { pieces, extras }
 }
 
@@ -333,14 +341,4 @@ pub fn shares_of(t: Table, q: Queue) -> Shares
 pub struct Granted {
     pub piece: Slots,
     pub extra: Slots,
-}
-
-pub fn grant_at(s: Shares, i: usize) -> Granted
-    requires { ⌜ i < 32 ⌝ }
-    ensures { λ r. ⌜ r ≡ granted (getD (s .pieces) i 0) (getD (s .extras) i 0) ⌝ }
-{
-    Granted {
-        piece: Slots(s.pieces[i]),
-        extra: Slots(s.extras[i]),
-    }
 }

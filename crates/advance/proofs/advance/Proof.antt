@@ -1,7 +1,7 @@
 use mathlib.Core.Path.{_≡_, refl, ap, _∙_}
 use native.Mathlib.Omega.{arith}
 use Rattle.lists.specs.All.{all-at}
-use Rattle.lists.specs.Loops.{mapped, mapped-more, map-at}
+use Rattle.lists.specs.Loops.{mapped, mapped-more}
 use Rattle.lists.specs.Spare.{spare-mapped}
 use Rattle.model.specs.Entries.{freeEntry}
 use Rattle.model.specs.declared.Entry.{Entry}
@@ -9,8 +9,8 @@ use Rattle.model.specs.declared.Table.{Table}
 use Rattle.laws.specs.Settled.{after-free}
 use Rattle.share.proofs.Known.{used-inside, used-rest}
 use Prim.Native.Nat.{_-_, _≤_, _<_}
-use lib.ListN.{length, getD}
-use Rattle.share.specs.Shares.{sharingOf, grantOf, grant-found}
+use lib.ListN.{length}
+use Rattle.share.specs.Shares.{sharingOf, grantOf, piece-found, extra-found}
 use Rattle.advance.specs.Next.{WithinAmounts, withEntries, afterGrant, advanced-places, grants-within}
 use borrow.Author.Needs.{needs}
 use Rattle.advance.proofs.advance.Statement.{statement}
@@ -20,10 +20,10 @@ abbrev stepIn : Table → Entry → Entry
 stepIn t e = afterGrant (grantOf (sharingOf t) (t .entries) e) e
 
 abbrev Inv-loop : tie.InvT-loop
-Inv-loop used s t next₀ i₀ next i = (i ≤ used) × (next ≡ withEntries t (mapped (stepIn t) i (t .entries)))
+Inv-loop used t s next₀ i₀ next i = (i ≤ used) × (next ≡ withEntries t (mapped (stepIn t) i (t .entries)))
 
 abbrev μ-loop : tie.MeasureT-loop
-μ-loop used s t next₀ i₀ next i = used - i
+μ-loop used t s next₀ i₀ next i = used - i
 
 loop-holds : tie.Need-loop-holds Inv-loop μ-loop
 loop-holds c = (omega arith, refl)
@@ -34,29 +34,32 @@ mul-e c = search needs
 element-copy-out-e : tie.Need-element-copy-out-e Inv-loop μ-loop
 element-copy-out-e c = search needs
 
-grant-at-requires : tie.Need-grant-at-requires Inv-loop μ-loop
-grant-at-requires c κs = search needs
+mul-t13 : tie.Need-mul-t13 Inv-loop μ-loop
+mul-t13 c = search needs
 
--- the place of the turn, and what its entry gets
-within : (c : tie.After-grant-at Inv-loop μ-loop)
-    → c .before .before .before .loop .i < length (c .before .before .before .before .args .t1 .entries)
+element-copy-out-t19 : tie.Need-element-copy-out-t19 Inv-loop μ-loop
+element-copy-out-t19 c = search needs
+
+mul-t21 : tie.Need-mul-t21 Inv-loop μ-loop
+mul-t21 c = search needs
+
+element-copy-out-t24 : tie.Need-element-copy-out-t24 Inv-loop μ-loop
+element-copy-out-t24 c = search needs
+
+within : (c : tie.After-e Inv-loop μ-loop) → c .before .before .loop .i < length (c .before .before .before .args .t1 .entries)
 within c =
-    let s = c .before .before .before .before in
-    used-inside (s .args .t1) (s .good .0) (s .pre .0 .1) (c .before .before .loop-test .taken)
-
-found : (c : tie.After-grant-at Inv-loop μ-loop) → (let l = c .before .before .before in let t = l .before .args .t1 in
-    c .grant-at .result ≡ grantOf (sharingOf t) (t .entries) (getD (t .entries) (l .loop .i) freeEntry))
-found c =
-    let l = c .before .before .before in
-    c .grant-at .ensures ∙ grant-found (l .before .args .t1) (l .before .pre .1) (l .loop .i) (within c)
+    let s = c .before .before .before in
+    used-inside (s .args .t1) (s .good .0) (s .pre .0 .1) (c .before .loop-test .taken)
 
 after-grant-requires : tie.Need-after-grant-requires Inv-loop μ-loop
 after-grant-requires c κs =
-    let s = c .before .before .before .before in
+    let l = c .before .before .before .before in
+    let s = l .before in
     let t = s .args .t1 in
-    rw (found c)
+    let h = within (c .before .before) in
+    rw (piece-found t (s .pre .1) (l .loop .i) h, extra-found t (s .pre .1) (l .loop .i) h)
     (all-at (λ e. WithinAmounts (grantOf (sharingOf t) (t .entries) e) e) (t .entries) freeEntry
-    (grants-within t (s .pre .0 .0) (sharingOf t)) _ (within c))
+    (grants-within t (s .pre .0 .0) (sharingOf t)) _ h)
 
 mul-n : tie.Need-mul-n Inv-loop μ-loop
 mul-n c = search needs
@@ -72,11 +75,13 @@ loop-less c = search needs
 
 loop-again : tie.Need-loop-again Inv-loop μ-loop
 loop-again c =
-    let l = c .before .before .before .before in
-    let t = l .before .args .t1 in (
+    let l = c .before .before .before .before .before in
+    let s = l .before in
+    let t = s .args .t1 in
+    let h = within (c .before .before .before) in (
       omega arith,
-      rw (c .after-grant .ensures, found (c .before), l .loop .inv .1)
-          (ap (withEntries t) (mapped-more (stepIn t) (t .entries) _ freeEntry (within (c .before)))),
+      rw (c .after-grant .ensures, piece-found t (s .pre .1) (l .loop .i) h, extra-found t (s .pre .1) (l .loop .i) h, l .loop .inv .1)
+          (ap (withEntries t) (mapped-more (stepIn t) (t .entries) _ freeEntry h)),
     )
 
 returns : tie.Need-returns Inv-loop μ-loop
@@ -99,7 +104,10 @@ advance-spec =
     loop-holds
     mul-e
     element-copy-out-e
-    grant-at-requires
+    mul-t13
+    element-copy-out-t19
+    mul-t21
+    element-copy-out-t24
     after-grant-requires
     mul-n
     element-set-from-n

@@ -1,6 +1,6 @@
 use mathlib.Core.Path.{_≡_, refl, sym, ap, ap₂, subst, _∙_}
 use mathlib.Core.List.{_++_, map}
-use Prim.Native.Nat.{_*_, _-_, _≤_, _<_}
+use Prim.Native.Nat.{ℕ, _*_, _-_, _≤_, _<_}
 use native.Mathlib.Omega.{arith}
 use lib.ListN.{length, drop, getD}
 use denote.Ref.{now}
@@ -9,7 +9,7 @@ use Rattle.model.specs.Entries.{freeEntry}
 use Rattle.model.specs.declared.Entry.{Entry}
 use Rattle.rules.specs.Calls.{wordsOf, planOf}
 use Rattle.laws.specs.Ranks.{rank, rankMost}
-use Rattle.share.specs.Shares.{sharingOf, grantOf, grant-found}
+use Rattle.share.specs.Shares.{granted, sharingOf, grantOf, piece-found, extra-found}
 use Rattle.share.proofs.Known.{inside}
 use Rattle.order.specs.Listed.{orderOf}
 use Rattle.order.specs.TiePlaces.{ranks-most}
@@ -24,10 +24,10 @@ use Rattle.jobs.proofs.write_jobs.Statement.{statement}
 use Rattle.jobs.proofs.write_jobs.Tie as tie
 
 abbrev Inv-loop : tie.InvT-loop
-Inv-loop s plan t o interval count streams₀ lengths₀ needs₀ k₀ streams lengths needs k = Making t o streams lengths needs k
+Inv-loop plan t s o interval count streams₀ lengths₀ needs₀ k₀ streams lengths needs k = Making t o streams lengths needs k
 
 abbrev μ-loop : tie.MeasureT-loop
-μ-loop s plan t o interval count streams₀ lengths₀ needs₀ k₀ streams lengths needs k = count - k
+μ-loop plan t s o interval count streams₀ lengths₀ needs₀ k₀ streams lengths needs k = count - k
 
 ordered-requires : tie.Need-ordered-requires Inv-loop μ-loop
 ordered-requires c κs =
@@ -78,61 +78,72 @@ element-copy-out-e c = search (needs, listed-inside c)
 job-length-requires : tie.Need-job-length-requires Inv-loop μ-loop
 job-length-requires c κs = search needs
 
-grant-at-requires : tie.Need-grant-at-requires Inv-loop μ-loop
-grant-at-requires c κs = listed-inside (c .before .before)
+mul-row-of : tie.Need-mul-row-of Inv-loop μ-loop
+mul-row-of c = search (needs, listed-inside (c .before .before))
 
--- what the entry of the row gets, and that its jobs have room
+element-copy-out-row-of : tie.Need-element-copy-out-row-of Inv-loop μ-loop
+element-copy-out-row-of c = search (needs, listed-inside (c .before .before))
+
+mul-t24 : tie.Need-mul-t24 Inv-loop μ-loop
+mul-t24 c = search (needs, listed-inside (c .before .before .before))
+
+element-copy-out-t37 : tie.Need-element-copy-out-t37 Inv-loop μ-loop
+element-copy-out-t37 c = search (needs, listed-inside (c .before .before .before))
+
+-- the entry of the row, what it gets, and that its jobs have room
 abbrev own : tie.After-e Inv-loop μ-loop → Entry
 own c =
     let l = c .before .before .before in
     let o = l .before .before in
     entryAt (o .before .before .before .args .t1) (getD (o .ordered .result .places) (l .loop .k) 0)
 
-found : (c : tie.After-grant-at Inv-loop μ-loop) → (let l = c .before .before .before .before .before in
-    let t = l .before .before .before .before .before .args .t1 in
-    c .grant-at .result ≡ grantOf (sharingOf t) (t .entries) (own (c .before .before)))
-found c =
-    let l = c .before .before .before .before .before in
-    let s = l .before .before .before .before .before in
-    let t = s .args .t1 in
-    c .grant-at .ensures ∙ grant-found t (s .pre .1 .0) _ (inside t (s .good .0) (listed-inside (c .before .before .before)))
+module _ (c : tie.After-e Inv-loop μ-loop) where
+  abbrev start : tie.Start Inv-loop μ-loop
+  start = c .before .before .before .before .before .before .before .before
 
-narrow : (c : tie.After-grant-at Inv-loop μ-loop) → (let l = c .before .before .before .before .before in
-    let t = l .before .before .before .before .before .args .t1 in
-    Narrow (sharingOf t) (t .entries) (own (c .before .before)))
-narrow c =
-    let l = c .before .before .before .before .before in
-    let s = l .before .before .before .before .before in
-    let t = s .args .t1 in
-    all-at (Narrow (sharingOf t) (t .entries)) (t .entries) freeEntry (narrow-places t (s .pre .0 .0)) _
-    (inside t (s .good .0) (listed-inside (c .before .before .before)))
+  abbrev at : ℕ
+  at = getD (c .before .before .before .before .before .ordered .result .places) (c .before .before .before .loop .k) 0
+
+  reads : at < length (start .args .t1 .entries)
+  reads = inside (start .args .t1) (start .good .0) (listed-inside (c .before))
+
+  pieced : getD (start .args .t3 .pieces) at 0 ≡ grantOf (sharingOf (start .args .t1)) (start .args .t1 .entries) (own c) .piece .0
+  pieced = piece-found (start .args .t1) (start .pre .1 .0) at reads
+
+  extended : getD (start .args .t3 .extras) at 0 ≡ grantOf (sharingOf (start .args .t1)) (start .args .t1 .entries) (own c) .extra .0
+  extended = extra-found (start .args .t1) (start .pre .1 .0) at reads
+
+  narrow : Narrow (sharingOf (start .args .t1)) (start .args .t1 .entries) (own c)
+  narrow =
+      let t = start .args .t1 in
+      all-at (Narrow (sharingOf t) (t .entries)) (t .entries) freeEntry (narrow-places t (start .pre .0 .0)) at reads
 
 need-of-requires : tie.Need-need-of-requires Inv-loop μ-loop
-need-of-requires c κs = rw (found c) (narrow c .small)
+need-of-requires c κs = rw (pieced (c .before .before .before), extended (c .before .before .before)) (narrow (c .before .before .before) .small)
 
 job-count-requires : tie.Need-job-count-requires Inv-loop μ-loop
 job-count-requires c κs = search needs
 
 row-of-requires : tie.Need-row-of-requires Inv-loop μ-loop
-row-of-requires c κs = rw (c .job-count .ensures) (narrow (c .before .before) .few)
+row-of-requires c κs = rw (c .job-count .ensures) (narrow (c .before .before .before .before .before) .few)
 
 mul-streams : tie.Need-mul-streams Inv-loop μ-loop
-mul-streams c = search (needs, row-inside (c .before .before .before .before .before .before .before))
+mul-streams c = search (needs, row-inside (c .before .before .before .before .before .before .before .before))
 
 array-write-streams : tie.Need-array-write-streams Inv-loop μ-loop
-array-write-streams c = search (needs, row-inside (c .before .before .before .before .before .before .before))
+array-write-streams c = search (needs, row-inside (c .before .before .before .before .before .before .before .before))
 
 mul-lengths : tie.Need-mul-lengths Inv-loop μ-loop
-mul-lengths c = search (needs, row-inside (c .before .before .before .before .before .before .before))
+mul-lengths c = search (needs, row-inside (c .before .before .before .before .before .before .before .before))
 
 array-write-lengths : tie.Need-array-write-lengths Inv-loop μ-loop
-array-write-lengths c = search (needs, row-inside (c .before .before .before .before .before .before .before))
+array-write-lengths c = search (needs, row-inside (c .before .before .before .before .before .before .before .before))
 
 mul-needs : tie.Need-mul-needs Inv-loop μ-loop
-mul-needs c = search (needs, row-inside (c .before .before .before .before .before .before .before))
+mul-needs c = search (needs, row-inside (c .before .before .before .before .before .before .before .before))
 
 array-set-from-needs : tie.Need-array-set-from-needs Inv-loop μ-loop
-array-set-from-needs c = search (needs, row-inside (c .before .before .before .before .before .before .before))
+array-set-from-needs c = search (needs, row-inside (c .before .before .before .before .before .before .before .before))
 
 add-k : tie.Need-add-k Inv-loop μ-loop
 add-k c = search needs
@@ -142,12 +153,13 @@ loop-less c = search needs
 
 loop-again : tie.Need-loop-again Inv-loop μ-loop
 loop-again c =
-    let g = c .before .before .before in
-    let l = g .before .before .before .before .before in
+    let j = c .before .before .before .before .before in
+    let e = j .before in
+    let l = e .before .before .before in
     let o = l .before .before in
-    let need = c .before .before .need-of .ensures ∙ ap (λ x. needBy x (own (g .before .before))) (found g) in
-    making-more (o .before .before .before .args .t1) (o .ordered .result) (listed o) (l .loop .inv) (g .before .before .before .before .loop-test .taken)
-    refl (g .before .job-length .ensures) (c .row-of .ensures ∙ ap₂ needsRow (c .before .job-count .ensures) need)
+    let need = c .before .before .need-of .ensures ∙ ap₂ (λ a b. needBy (granted a b) (own e)) (pieced e) (extended e) in
+    making-more (o .before .before .before .args .t1) (o .ordered .result) (listed o) (l .loop .inv) (e .before .before .loop-test .taken) refl
+    (j .job-length .ensures) (c .row-of .ensures ∙ ap₂ needsRow (c .before .job-count .ensures) need)
 
 -- the rows are the table's, and so is their plan
 made : (c : tie.After-loop Inv-loop μ-loop) → (let l = c .before .loop in let o = c .before .before .before in
@@ -192,7 +204,10 @@ write-jobs-spec =
     mul-e
     element-copy-out-e
     job-length-requires
-    grant-at-requires
+    mul-row-of
+    element-copy-out-row-of
+    mul-t24
+    element-copy-out-t37
     need-of-requires
     job-count-requires
     row-of-requires

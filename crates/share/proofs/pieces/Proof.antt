@@ -1,7 +1,6 @@
-use mathlib.Core.Path.{_≡_, refl, sym, subst, ap₂, _∙_}
+use mathlib.Core.Path.{_≡_, refl, sym, subst, _∙_}
 use Prim.Native.Nat.{_-_, _≤_}
 use native.Mathlib.Omega.{arith}
-use lib.ListN.{length}
 use Rattle.lists.specs.Spare.{Spare, begun, begun-more, begun-all}
 use Rattle.share.specs.Queues.{piecesOf, pieces-at, pieces-length, pieces-spare}
 use Rattle.share.proofs.Known.{queue-32}
@@ -18,8 +17,19 @@ abbrev μ-loop : tie.MeasureT-loop
 loop-holds : tie.Need-loop-holds Inv-loop μ-loop
 loop-holds c = (omega arith, refl)
 
+slice-aggregate-piece-at : tie.Need-slice-aggregate-piece-at Inv-loop μ-loop
+slice-aggregate-piece-at c = search needs
+
+slice-aggregate-piece-at-2 : tie.Need-slice-aggregate-piece-at-2 Inv-loop μ-loop
+slice-aggregate-piece-at-2 c = search needs
+
 piece-at-requires : tie.Need-piece-at-requires Inv-loop μ-loop
-piece-at-requires c κs = search needs
+piece-at-requires c κs =
+    let s = c .before .before .before .before .before .before in
+    let q = s .args .q in
+    let w = queue-32 q (s .good .0) in
+    let few = s .pre .0 in
+    (record { ranked = omega arith; short = few; room = omega arith; spare = s .pre .1 }, c .before .before .loop-test .taken)
 
 mul-pieces : tie.Need-mul-pieces Inv-loop μ-loop
 mul-pieces c = search needs
@@ -35,7 +45,7 @@ loop-less c = search needs
 
 loop-again : tie.Need-loop-again Inv-loop μ-loop
 loop-again c =
-    let l = c .before .before in
+    let l = c .before .before .before .before in
     let s = l .before .before .before in
     let q = s .args .q in
     let w = queue-32 q (s .good .0) in
@@ -43,7 +53,8 @@ loop-again c =
       omega arith,
       begun-more 0 32 (l .loop .i) _ 0 (pieces-length (s .args .capacity .0) (q .ranks) (q .owed) 32 (q .ranks) (q .owed) (w .0) (w .1))
           (omega arith) (l .loop .inv .1)
-          (c .piece-at .ensures ∙ sym (pieces-at (s .args .capacity .0) (q .ranks) (q .owed) (l .loop .i) (q .ranks) (q .owed) (omega arith) (omega arith))),
+          (c .piece-at .ensures
+          ∙ sym (pieces-at (s .args .capacity .0) (q .ranks) (q .owed) (l .loop .i) (q .ranks) (q .owed) (omega arith) (omega arith))),
     )
 
 returns : tie.Need-returns Inv-loop μ-loop
@@ -65,6 +76,8 @@ pieces-spec =
     Inv-loop
     μ-loop
     loop-holds
+    slice-aggregate-piece-at
+    slice-aggregate-piece-at-2
     piece-at-requires
     mul-pieces
     array-write-pieces

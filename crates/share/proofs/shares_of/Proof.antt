@@ -1,9 +1,14 @@
-use mathlib.Core.Path.{_≡_, refl, ap₂, _∙_}
-use Rattle.rules.specs.Share.{remains}
+use mathlib.Core.Path.{_≡_, refl, sym, ap, ap₂, subst, _∙_}
+use mathlib.Core.List.{map, map-map}
+use Prim.Native.Nat.{_≤_}
+use native.Mathlib.Omega.{arith}
+use Rattle.lists.specs.Spare.{Spare, spare-map}
+use Rattle.model.specs.Entries.{freeEntry}
+use Rattle.rules.specs.Share.{remains, extra}
 use Rattle.rules.specs.Calls.{heldOf}
 use Rattle.share.specs.Queues.{queued-spare}
-use Rattle.share.specs.Shares.{piecesIn, extrasBy, pieces-found, remains-found}
-use Rattle.share.specs.declared.Shares.{Shares}
+use Rattle.share.specs.Shares.{piecesIn, roomIn, roomsIn, extrasBy, pieces-found, remains-found}
+use Rattle.share.proofs.Known.{queue-32}
 use borrow.Author.Needs.{needs}
 use Rattle.share.proofs.shares_of.Statement.{statement}
 use Rattle.share.proofs.shares_of.Tie as tie
@@ -14,8 +19,20 @@ capacity-requires c κs = search needs
 pieces-requires : tie.Need-pieces-requires
 pieces-requires c κs = queued-spare (c .before .before .before .pre .1)
 
+slice-aggregate-owed-below : tie.Need-slice-aggregate-owed-below
+slice-aggregate-owed-below c = search needs
+
+slice-aggregate-owed-below-2 : tie.Need-slice-aggregate-owed-below-2
+slice-aggregate-owed-below-2 c = search needs
+
 owed-below-requires : tie.Need-owed-below-requires
-owed-below-requires c κs = queued-spare (c .before .before .before .before .pre .1)
+owed-below-requires c κs =
+    let s = c .before .before .before .before .before .before in
+    let q = s .args .q in
+    let w = queue-32 q (s .good .1 .0) in
+    let k = queued-spare (s .pre .1) in
+    let few = k .0 in
+    record { ranked = omega arith; short = few; room = omega arith; spare = k .1 }
 
 left-of-requires : tie.Need-left-of-requires
 left-of-requires c κs = search needs
@@ -25,25 +42,34 @@ found c =
     let s = c .before .before .before .before in
     pieces-found (s .args .t) (s .pre .0) (s .pre .1) (c .before .capacity .ensures) (c .pieces .ensures)
 
-weight-requires : tie.Need-weight-requires
-weight-requires c κs =
-    let s = c .before .before .before .before .before .before in
-    ((s .pre .0, s .pre .1 .used), found (c .before .before))
+rooms-of-requires : tie.Need-rooms-of-requires
+rooms-of-requires c κs =
+    let p = c .before .before .before .before in
+    let s = p .before .before .before .before in
+    ((s .pre .0, s .pre .1 .used), found p)
 
-extras-requires : tie.Need-extras-requires
-extras-requires c κs =
-    let s = c .before .before .before .before .before .before .before in
-    (s .pre .1 .used, found (c .before .before .before))
+extras-of-requires : tie.Need-extras-of-requires
+extras-of-requires c κs =
+    let r = c .before in
+    let s = r .before .before .before .before .before .before .before .before .before in
+    let t = s .args .t in
+    let u = s .pre .1 .used in
+    (u .0, subst (Spare 0 (s .args .q .used)) (sym (r .rooms-of .ensures .0)) (spare-map freeEntry (roomIn t) (s .args .q .used) (t .entries) (u .1)))
 
 returns : tie.Need-returns
 returns c =
-    let l = c .before .before in
-    let p = l .before .before in
+    let r = c .before .before in
+    let l = r .before in
+    let p = l .before .before .before .before in
     let s = p .before .before .before .before in
     let t = s .args .t in
     let L : l .left-of .result .0 ≡ remains (t .interval .0) (heldOf t) =
     remains-found t (s .pre .0) (s .pre .1) (p .before .capacity .ensures) (l .before .owed-below .ensures) (l .left-of .ensures) in
-    ap₂ (λ ps xs. record { pieces = ps; extras = xs }) (found p) (c .extras .ensures ∙ ap₂ (λ a b. extrasBy a b t) L (c .before .weight .ensures))
+    ap₂ (λ ps xs. record { pieces = ps; extras = xs }) (found p)
+    (c .extras-of .ensures
+    ∙ ap (map _) (r .rooms-of .ensures .0)
+    ∙ map-map _ (roomIn t) (t .entries)
+    ∙ ap₂ (λ a b. extrasBy a b t) L (r .rooms-of .ensures .1))
 
 pub shares-of-spec : {M : Type 1} → statement M
 shares-of-spec =
@@ -51,8 +77,10 @@ shares-of-spec =
     (tie.spec
     capacity-requires
     pieces-requires
+    slice-aggregate-owed-below
+    slice-aggregate-owed-below-2
     owed-below-requires
     left-of-requires
-    weight-requires
-    extras-requires
+    rooms-of-requires
+    extras-of-requires
     returns)

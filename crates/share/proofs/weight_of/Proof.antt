@@ -9,9 +9,6 @@ job-count-requires c κs = search needs
 cast-jobs : tie.Need-cast-jobs
 cast-jobs c = search needs
 
-headroom-requires : tie.Need-headroom-requires
-headroom-requires c κs = search needs
-
 cast-result : tie.Need-cast-result
 cast-result c = search needs
 
@@ -22,6 +19,4 @@ returns : tie.Need-returns
 returns c = cc
 
 pub weight-of-spec : {M : Type 1} → statement M
-weight-of-spec =
-    tie.close
-    (tie.spec job-count-requires cast-jobs headroom-requires cast-result mul-result returns)
+weight-of-spec = tie.close (tie.spec job-count-requires cast-jobs cast-result mul-result returns)
