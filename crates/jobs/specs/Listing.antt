@@ -87,4 +87,6 @@ module _ (t : Table) (o : Order) (w : Listed o) where
         → ys ≡ map f (rowsIn t o)
     rows-all k h l p =
         let e : o .count ≡ k = omega arith in
-        p ∙ begun-all (f freeEntry) 32 k (map f (rowsIn t o)) rows-size (subst (λ n. Spare (f freeEntry) n (map f (rowsIn t o))) e rows-spare)
+        p
+        ∙ begun-all (f freeEntry) 32 k (map f (rowsIn t o)) rows-size
+        (subst (λ n. Spare (f freeEntry) n (map f (rowsIn t o))) e rows-spare)

@@ -1,5 +1,5 @@
--- What a function knows of a table or a queue that it was passed by value: it has 32 places. Loops over the places of a table that are used.
--- Assumes nothing.
+-- What a function knows of a table or a queue that it was passed by value: it has 32 places. Loops over the places of a table that are
+-- used. Assumes nothing.
 use mathlib.Core.Path.{_≡_, sym, ap, subst, _∙_}
 use mathlib.Core.List.{List, map}
 use Prim.Native.Nat.{ℕ, _+_, _≤_, _<_}

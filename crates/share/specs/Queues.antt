@@ -97,7 +97,8 @@ pub below-spare : (r n : ℕ) (ks os : List ℕ) → Spare 0 n os → owedBelow 
 unfolding owedBelow
 below-spare r zero [] os h = refl
 below-spare r zero (k ∷ ks) [] h = refl
-below-spare r zero (k ∷ ks) (o ∷ os) (and e h) = omega (arith, ap (λ v. cond (ltb k r) v 0) e ∙ cond-zero (ltb k r), below-spare r zero ks os h)
+below-spare r zero (k ∷ ks) (o ∷ os) (and e h) =
+    omega (arith, ap (λ v. cond (ltb k r) v 0) e ∙ cond-zero (ltb k r), below-spare r zero ks os h)
 below-spare r (suc n) [] os h = refl
 below-spare r (suc n) (k ∷ ks) [] h = refl
 below-spare r (suc n) (k ∷ ks) (o ∷ os) h = omega (arith, below-spare r n ks os h)

@@ -53,7 +53,8 @@ within c =
     used-inside (s .args .t1) (s .good .0) (s .pre .0 .1) (c .before .loop-test .taken)
 
 found : (c : tie.After-e Inv-loop μ-loop) → (let l = c .before .before in let t = l .before .args .t1 in
-    getD (l .before .args .t3) (l .loop .i) 0 ≡ takes (capacity (t .interval .0) (heldOf t)) (t .entries) (getD (t .entries) (l .loop .i) freeEntry))
+    getD (l .before .args .t3) (l .loop .i) 0
+    ≡ takes (capacity (t .interval .0) (heldOf t)) (t .entries) (getD (t .entries) (l .loop .i) freeEntry))
 found c =
     let l = c .before .before in
     let t = l .before .args .t1 in
@@ -64,8 +65,8 @@ after-grant-requires c κs =
     let s = c .before .before .before in
     let t = s .args .t1 in
     rw (found c)
-    (all-at (λ e. WithinAmounts (pieceIn t e) e) (t .entries) freeEntry (pieces-within t (s .pre .0 .0) (capacity (t .interval .0) (heldOf t))) _
-    (within c))
+    (all-at (λ e. WithinAmounts (pieceIn t e) e) (t .entries) freeEntry
+    (pieces-within t (s .pre .0 .0) (capacity (t .interval .0) (heldOf t))) _ (within c))
 
 mul-n : tie.Need-mul-n Inv-loop μ-loop
 mul-n c = search needs

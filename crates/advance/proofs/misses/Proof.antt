@@ -22,7 +22,9 @@ abbrev missesIn : Table → Entry → Bool
 missesIn t e = missesBy (capacity (t .interval .0) (heldOf t)) (t .entries) e
 
 abbrev Inv-loop : tie.InvT-loop
-Inv-loop used t pieces i₀ i = (i ≤ used) × (anyOf (missesIn t) (drop i (t .entries)) ≡ anyOf (misses (stepB (t .interval .0) (heldOf t))) (heldOf t))
+Inv-loop used t pieces i₀ i =
+    (i ≤ used)
+    × (anyOf (missesIn t) (drop i (t .entries)) ≡ anyOf (misses (stepB (t .interval .0) (heldOf t))) (heldOf t))
 
 abbrev μ-loop : tie.MeasureT-loop
 μ-loop used t pieces i₀ i = used - i
@@ -84,7 +86,8 @@ returns-2 c =
     let l = c .before in
     let s = l .before in
     let t = s .args .t1 in
-    sym (spare-any freeEntry (missesIn t) refl (l .loop .i) (t .entries) (used-rest t (s .good .0) (s .pre .0 .1) (l .loop .inv .0) (c .loop-test .left)))
+    let rest = used-rest t (s .good .0) (s .pre .0 .1) (l .loop .inv .0) (c .loop-test .left) in
+    sym (spare-any freeEntry (missesIn t) refl (l .loop .i) (t .entries) rest)
     ∙ l .loop .inv .1
 
 pub misses-spec : {M : Type 1} → statement M

@@ -119,7 +119,7 @@ module _ (c : tie.After-e Inv-loop μ-loop) where
       all-at (Narrow (sharingOf t) (t .entries)) (t .entries) freeEntry (narrow-places t (start .pre .0 .0)) at reads
 
 need-of-requires : tie.Need-need-of-requires Inv-loop μ-loop
-need-of-requires c κs = rw (pieced (c .before .before .before), extended (c .before .before .before)) (narrow (c .before .before .before) .small)
+need-of-requires c κs = (let e = c .before .before .before in rw (pieced e, extended e) (narrow e .small))
 
 job-count-requires : tie.Need-job-count-requires Inv-loop μ-loop
 job-count-requires c κs = search needs
@@ -158,8 +158,8 @@ loop-again c =
     let l = e .before .before .before in
     let o = l .before .before in
     let need = c .before .before .need-of .ensures ∙ ap₂ (λ a b. needBy (granted a b) (own e)) (pieced e) (extended e) in
-    making-more (o .before .before .before .args .t1) (o .ordered .result) (listed o) (l .loop .inv) (e .before .before .loop-test .taken) refl
-    (j .job-length .ensures) (c .row-of .ensures ∙ ap₂ needsRow (c .before .job-count .ensures) need)
+    making-more (o .before .before .before .args .t1) (o .ordered .result) (listed o) (l .loop .inv) (e .before .before .loop-test .taken)
+    refl (j .job-length .ensures) (c .row-of .ensures ∙ ap₂ needsRow (c .before .job-count .ensures) need)
 
 -- the rows are the table's, and so is their plan
 made : (c : tie.After-loop Inv-loop μ-loop) → (let l = c .before .loop in let o = c .before .before .before in

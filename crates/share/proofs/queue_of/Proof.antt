@@ -11,7 +11,10 @@ use Rattle.share.proofs.queue_of.Statement.{statement}
 use Rattle.share.proofs.queue_of.Tie as tie
 
 abbrev Inv-loop : tie.InvT-loop
-Inv-loop t used ranks₀ owed₀ i₀ ranks owed i = (i ≤ used) × (ranks ≡ begun 0 32 i (map rank (t .entries))) × (owed ≡ begun 0 32 i (map owedTo (t .entries)))
+Inv-loop t used ranks₀ owed₀ i₀ ranks owed i =
+    (i ≤ used)
+    × (ranks ≡ begun 0 32 i (map rank (t .entries)))
+    × (owed ≡ begun 0 32 i (map owedTo (t .entries)))
 
 abbrev μ-loop : tie.MeasureT-loop
 μ-loop t used ranks₀ owed₀ i₀ ranks owed i = used - i

@@ -86,7 +86,8 @@ small c =
     let t = s .args .t1 in
     let b = takes (capacity (t .interval .0) (heldOf t)) (t .entries) in
     rw (own c)
-    (all-at (λ e. jobCount e * headroom e (b e) ≤ mostWeight) (t .entries) freeEntry (weight-most t (s .pre .0 .0) b) _ (within (c .before)))
+    (all-at (λ e. jobCount e * headroom e (b e) ≤ mostWeight) (t .entries) freeEntry (weight-most t (s .pre .0 .0) b) _
+    (within (c .before)))
 
 add-weight : tie.Need-add-weight Inv-loop μ-loop
 add-weight c = omega (arith, small c)

@@ -54,7 +54,8 @@ extras-of-requires c κs =
     let s = r .before .before .before .before .before .before .before .before .before in
     let t = s .args .t in
     let u = s .pre .1 .used in
-    (u .0, subst (Spare 0 (s .args .q .used)) (sym (r .rooms-of .ensures .0)) (spare-map freeEntry (roomIn t) (s .args .q .used) (t .entries) (u .1)))
+    let n = s .args .q .used in
+    (u .0, subst (Spare 0 n) (sym (r .rooms-of .ensures .0)) (spare-map freeEntry (roomIn t) n (t .entries) (u .1)))
 
 returns : tie.Need-returns
 returns c =

@@ -25,7 +25,9 @@ laterBy n c ps e = later n (takes c ps e) e
 abbrev Inv-loop : tie.InvT-loop
 Inv-loop n t used pieces next₀ i₀ next i =
     (i ≤ used)
-    × ((m : ℕ) × (pieces ≡ map (takes m (t .entries)) (t .entries)) × (next ≡ withEntries t (mapped (laterBy n m (t .entries)) i (t .entries))))
+    × ((m : ℕ)
+    × (pieces ≡ map (takes m (t .entries)) (t .entries))
+    × (next ≡ withEntries t (mapped (laterBy n m (t .entries)) i (t .entries))))
 
 abbrev μ-loop : tie.MeasureT-loop
 μ-loop n t used pieces next₀ i₀ next i = used - i
@@ -39,7 +41,8 @@ pieces-requires c κs = queued-spare (c .queue-of .ensures)
 loop-holds : tie.Need-loop-holds Inv-loop μ-loop
 loop-holds c =
     let s = c .before .before in
-    (omega arith, (s .args .slots .0, takes-found (s .args .t1) (s .pre) (c .before .queue-of .ensures) (s .args .slots .0) (c .pieces .ensures), refl))
+    let m = s .args .slots .0 in
+    (omega arith, (m, takes-found (s .args .t1) (s .pre) (c .before .queue-of .ensures) m (c .pieces .ensures), refl))
 
 mul-e : tie.Need-mul-e Inv-loop μ-loop
 mul-e c = search needs
