@@ -1,6 +1,9 @@
-use mathlib.Core.Path.{refl, sym, ap, _∙_}
+use mathlib.Core.Path.{_≡_, refl, sym, ap, _∙_}
+use mathlib.Core.Bool.{true}
 use native.Mathlib.Omega.{arith}
+use lib.Dec.{eqb}
 use borrow.Author.Tests.{eq-eqb, ne-eqb}
+use Rattle.rows.specs.Lines.{unheld}
 use Rattle.rows.specs.declared.Line.{Line}
 use Rattle.printing.specs.PrintedLaws.{written-none}
 use Rattle.interpreter.specs.Cutting.{commandIn, lastRows, lastPlan}
@@ -14,7 +17,9 @@ unheld-requires c κs = search needs
 returns : tie.Need-returns
 unfolding lastRows lastPlan
 returns c =
-    let z = eq-eqb _ _ (ap (λ (l : Line). l .len) (sym (c .before .before .unheld .ensures)) ∙ c .if1 .taken) in
+    let s = c .before .before .before .before .before .args .s in
+    let z : eqb (unheld (s .reader) .len) 0 ≡ true =
+    eq-eqb _ _ (ap (λ (l : Line). l .len) (sym (c .before .before .unheld .ensures)) ∙ c .if1 .taken) in
     rw z (omega arith, (sym (written-none _ _), refl))
 
 command-in-requires : tie.Need-command-in-requires
