@@ -58,7 +58,7 @@ bindings: archive
 	@cargo test --offline --release --quiet --manifest-path bindings/rust/Cargo.toml
 
 # The calls measured beside the second implementation and the published procedure: the tables of docs/PERFORMANCE.md, and its plots anew.
-# Takes about three minutes (valgrind's callgrind).
+# Takes about two minutes (valgrind's callgrind).
 bench: archive
 	@cargo run --offline --release --quiet --manifest-path bench/Cargo.toml --features ours -- all docs
 
