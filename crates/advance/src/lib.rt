@@ -10,9 +10,6 @@ ghost use Rattle.ahead.specs.Loop.{lookedPast};
 ghost use Rattle.share.specs.Queues.{Used};
 ghost use Rattle.share.specs.Shares.{piecesIn, sharesOf};
 ghost use Rattle.advance.specs.Next.{WithinAmounts, afterGrant, missesWith};
-
-pub mod places; // places.rt: which streams a table holds, and a place taken or given back
-
 use model::Entry;
 use model::Slots;
 use model::Table;

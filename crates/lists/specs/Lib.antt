@@ -7,3 +7,4 @@ pub mod Picked
 pub mod Sorted
 pub mod Loops
 pub mod Spare
+pub mod First

@@ -118,6 +118,26 @@ module _ {A : Type 0} (p : A → Bool) (xs : List A) (i : ℕ) {v : Bool} (w : a
   pub any-ended : length xs ≤ i → false ≡ v
   any-ended h = sym (ap (anyOf p) (drop-of-length-le xs h)) ∙ w
 
+-- ---- a search that goes on to the end: whether one of the first i elements passes, and of one more
+module _ {A : Type 0} (p : A → Bool) where
+  any-suc : (xs : List A) (i : ℕ) (d : A) → i < length xs → (anyOf p (take i xs) || p (getD xs i d)) ≡ anyOf p (take (suc i) xs)
+  any-suc [] i d h = absurd (not-suc-le-zero h)
+  any-suc (x ∷ xs) zero d h = go (p x)
+    where
+      go : (b : Bool) → b ≡ (b || false)
+      go true = refl
+      go false = refl
+  any-suc (x ∷ xs) (suc i) d h = go (p x) (any-suc xs i d (le-of-suc-le-suc h))
+    where
+      go : (b : Bool) → (anyOf p (take i xs) || p (getD xs i d)) ≡ anyOf p (take (suc i) xs)
+          → ((b || anyOf p (take i xs)) || p (getD xs i d)) ≡ (b || anyOf p (take (suc i) xs))
+      go true e = refl
+      go false e = e
+
+  pub any-more : {b : Bool} (xs : List A) (i : ℕ) (d : A) → i < length xs → b ≡ anyOf p (take i xs)
+      → (b || p (getD xs i d)) ≡ anyOf p (take (i + 1) xs)
+  any-more xs i d h e = rw (add-one, e) (any-suc xs i d h)
+
 -- ---- over all elements, where a definition speaks of those that are kept
 module _ {A : Type 0} where
   pub any-ext : (p q : A → Bool) {xs : List A} → All (λ x. p x ≡ q x) xs → anyOf p xs ≡ anyOf q xs

@@ -53,21 +53,6 @@ abbrev pub late : Table → Bool
 late t = anyOf (misses (stepB (t .interval .0) (heldOf t))) (heldOf t)
 
 -- ---- a quick yes
-pub larger-right : (a b : ℕ) → a ≤ b → b ≡ max a b
-larger-right a b h = omega arith
-
-pub larger-left : (a b : ℕ) → b ≤ a → a ≡ max a b
-larger-left a b h = omega arith
-
-pub over-test : (l s b : ℕ) → b < l → false ≡ leb (l + s) b
-over-test l s b h = sym (lt-leb (l + s) b (omega arith))
-
-pub even-test : (l s b : ℕ) → l ≤ b → leb s (b - l) ≡ leb (l + s) b
-even-test l s b h =
-    same-test (leb s (b - l)) (leb (l + s) b)
-    (λ e. let k = leb-true s (b - l) e in le-leb (l + s) b (omega arith))
-    (λ e. let k = leb-true (l + s) b e in le-leb s (b - l) (omega arith))
-
 -- looking ahead says yes where an even share is enough
 pub stops-even : (t : Table) {b v : Bool} → Tidy t → b ≡ leb (load (heldOf t) + sumOf evenly (t .entries)) (t .interval .0) → b ≡ true
     → ahead t ≡ v → true ≡ v

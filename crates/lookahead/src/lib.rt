@@ -6,7 +6,6 @@ ghost use Rattle.rules.specs.Ahead.{fitsAhead};
 ghost use Rattle.rules.specs.Calls.{heldOf};
 ghost use Rattle.laws.specs.Places.{Tidy};
 
-pub mod even; // even.rt: a quick yes where an even share is enough
 pub mod leap; // leap.rt: the intervals in which nothing ends, served as one
 
 use model::Table;
@@ -33,7 +32,7 @@ pub fn fits_ahead(t: Table) -> bool
 {
     let mut now = t;
     while any_held(now) {
-        if even::fits_evenly(now) {
+        if survey::fits_evenly(now) {
             return true;
         }
         if share::overfull(now) {

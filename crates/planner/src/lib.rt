@@ -3,14 +3,14 @@
 // the guarantee are made of.
 ghost use mathlib.Core.Bool.{cond};
 ghost use mathlib.Core.Path.{_≡_};
-ghost use lib.Dec.{eqb};
+ghost use lib.Dec.{eqb, leb, ltb};
 ghost use Rattle.model.specs.Requests.{refusal};
 ghost use Rattle.model.specs.Answers.{offerNumber};
 ghost use Rattle.model.specs.Entries.{entryOf};
-ghost use Rattle.rules.specs.Calls.{openAnswer, opened, holds, offerAnswer, offered, heldAnswer, withdrawn, beacon};
+ghost use Rattle.rules.specs.Calls.{places, openAnswer, opened, offerAnswer, offered, heldAnswer, withdrawn, beacon};
 ghost use Rattle.rules.specs.Reading.{enquired};
 ghost use Rattle.rules.specs.WellFormed.{WellFormed};
-ghost use Rattle.laws.specs.Offers.{offerChecksBut, isFull};
+ghost use Rattle.laws.specs.Offers.{offerChecksBut};
 ghost use Rattle.planner.specs.Numbers.{openNumber, heldNumber, beaconNumber, request, noneHeld, noTable};
 use model::Entry;
 use model::Intervals;
@@ -18,6 +18,7 @@ use model::OfferAnswer;
 use model::Request;
 use model::Slots;
 use model::Table;
+use survey::Survey;
 
 pub enum OpenAnswer {
     Opened,
@@ -154,20 +155,20 @@ fn entry_of(q: Request) -> Entry
 }
 
 // The first of refusals 10 to 16 that applies, or Accepted where none does.
-fn first_refusal(t: Table, q: Request) -> OfferAnswer
-    ensures { λ r. ⌜ offerNumber r ≡ refusal (offerChecksBut (holds t (q .stream)) (isFull t q) (t .interval .0) q) ⌝ }
+fn first_refusal(interval: Slots, s: Survey, q: Request) -> OfferAnswer
+    ensures { λ r. ⌜ offerNumber r ≡ refusal (offerChecksBut (s .taken) (leb places (s .free)) (interval .0) q) ⌝ }
 {
     if !q.stream_in_range() {
         return OfferAnswer::StreamOutside;
     }
-    if advance::places::is_taken(t, q.stream) {
+    if s.taken {
         return OfferAnswer::StreamHeld;
     }
-    let fields = q.check_fields(t.interval);
+    let fields = q.check_fields(interval);
     if !is_accepted(fields) {
         return fields;
     }
-    if 32 <= advance::places::count_held(t) {
+    if 32 <= s.free {
         return OfferAnswer::TableFull;
     }
     OfferAnswer::Accepted
@@ -194,21 +195,26 @@ pub fn offer(
         max,
         life,
     };
-    let answer = first_refusal(t, q);
+    let s = survey::survey_for(t, stream);
+    let interval = t.interval;
+    let answer = first_refusal(interval, s, q);
     if !is_accepted(answer) {
         return Offering { answer, table: t };
     }
-    let next = advance::places::placed(t, entry_of(q));
-    if lookahead::fits_ahead(next) {
+    let e = entry_of(q);
+    let at = s.free;
+    let mut new = t;
+    new.entries[at] = e;
+    if survey::fits_with(s.needed, e, interval) {
+        return Offering { answer, table: new };
+    }
+    if !lookahead::fits_ahead(new) {
         return Offering {
-            answer,
-            table: next,
+            answer: OfferAnswer::NoTime,
+            table: t,
         };
     }
-    Offering {
-        answer: OfferAnswer::NoTime,
-        table: t,
-    }
+    Offering { answer, table: new }
 }
 
 // ---- a withdrawal
@@ -217,20 +223,28 @@ pub struct Withdrawal {
     pub table: Table,
 }
 
+// Place 32 stands for none.
+fn held_at(at: usize) -> HeldAnswer
+    ensures { λ r. ⌜ heldNumber r ≡ cond (ltb at places) 0 20 ⌝ }
+{
+    if at < 32 {
+        return HeldAnswer::Held;
+    }
+    HeldAnswer::NotHeld
+}
+
 pub fn withdraw(t: Table, stream: u32) -> Withdrawal
     requires { ⌜ WellFormed t ⌝ }
     ensures { λ r. ⌜ (heldNumber (r .answer) ≡ heldAnswer t stream) × (r .table ≡ withdrawn t stream) ⌝ }
 {
-    if advance::places::is_taken(t, stream) {
-        return Withdrawal {
-            answer: HeldAnswer::Held,
-            table: advance::places::without(t, stream),
-        };
+    let place = survey::place_of(t, stream);
+    let answer = held_at(place);
+    let mut table = t;
+    if place < 32 {
+        let free = model::free_entry();
+        table.entries[place] = free;
     }
-    Withdrawal {
-        answer: HeldAnswer::NotHeld,
-        table: t,
-    }
+    Withdrawal { answer, table }
 }
 
 // ---- an enquiry
@@ -243,17 +257,14 @@ pub fn enquire(t: Table, stream: u32) -> Enquiry
     requires { ⌜ WellFormed t ⌝ }
     ensures { λ r. ⌜ (heldNumber (r .answer) ≡ heldAnswer t stream) × (r .entry ≡ enquired t stream) ⌝ }
 {
-    let entry = advance::places::entry_for(t, stream);
-    if advance::places::is_taken(t, stream) {
-        return Enquiry {
-            answer: HeldAnswer::Held,
-            entry,
-        };
+    let found = survey::place_of(t, stream);
+    let answer = held_at(found);
+    if found < 32 {
+        let entry = t.entries[found];
+        return Enquiry { answer, entry };
     }
-    Enquiry {
-        answer: HeldAnswer::NotHeld,
-        entry,
-    }
+    let entry = model::free_entry();
+    Enquiry { answer, entry }
 }
 
 // ---- a beacon

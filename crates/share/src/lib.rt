@@ -72,7 +72,7 @@ pub fn job_length(interval: Slots, e: Entry) -> Slots
 
 // ---- A. capacity
 // What a kind 1 stream takes of an interval: m times its minimum.
-fn load_of(e: Entry) -> u64
+pub fn load_of(e: Entry) -> u64
     ensures { λ r. ⌜ r ≡ cond (isKind 1 e) (e .parts * e .min .0) 0 ⌝ }
 {
     let kind = e.kind;

@@ -1,23 +1,52 @@
-use mathlib.Core.Path.{sym, _∙_}
-use Rattle.model.specs.Requests.{refusal}
-use Rattle.rules.specs.Calls.{heldAnswer}
+use mathlib.Core.Path.{_∙_}
 use borrow.Author.Needs.{needs}
+use Rattle.planner.specs.Held.{held-answer, held-entry, none-entry}
 use Rattle.planner.proofs.enquire.Statement.{statement}
 use Rattle.planner.proofs.enquire.Tie as tie
 
-entry-for-requires : tie.Need-entry-for-requires
-entry-for-requires c κs = search needs
+place-of-requires : tie.Need-place-of-requires
+place-of-requires c κs = search needs
 
-is-taken-requires : tie.Need-is-taken-requires
-is-taken-requires c κs = search needs
+held-at-requires : tie.Need-held-at-requires
+held-at-requires c κs = search needs
+
+mul-entry : tie.Need-mul-entry
+mul-entry c = search needs
+
+element-copy-out-entry : tie.Need-element-copy-out-entry
+element-copy-out-entry c = search needs
 
 returns : tie.Need-returns
-unfolding heldAnswer refusal
-returns c = (let q = sym (c .before .is-taken .ensures) ∙ c .if1 .taken in (rw q, c .before .before .entry-for .ensures))
+returns c =
+    let h = c .before .before in
+    let p = h .before in
+    let s = p .before in
+    let e = p .place-of .ensures in (
+      held-answer (s .args .t1) (s .pre) _ e (h .held-at .ensures),
+      held-entry (s .args .t1) (s .pre) _ e _ (c .before .if1 .taken),
+    )
+
+free-entry-requires : tie.Need-free-entry-requires
+free-entry-requires c κs = search needs
 
 returns-2 : tie.Need-returns-2
-unfolding heldAnswer refusal
-returns-2 c = (let q = sym (c .before .is-taken .ensures) ∙ c .if1 .left in (rw q, c .before .before .entry-for .ensures))
+returns-2 c =
+    let h = c .before .before in
+    let p = h .before in
+    let s = p .before in
+    let e = p .place-of .ensures in (
+      held-answer (s .args .t1) (s .pre) _ e (h .held-at .ensures),
+      c .free-entry .ensures ∙ none-entry (s .args .t1) (s .pre) _ e (c .before .if1 .left),
+    )
 
 pub enquire-spec : {M : Type 1} → statement M
-enquire-spec = tie.close (tie.spec entry-for-requires is-taken-requires returns returns-2)
+enquire-spec =
+    tie.close
+    (tie.spec
+    place-of-requires
+    held-at-requires
+    mul-entry
+    element-copy-out-entry
+    returns
+    free-entry-requires
+    returns-2)

@@ -1,0 +1,106 @@
+-- One pass over a table's places, as an offer makes it: what is found up to a place, and with one place more. Assumes nothing.
+use mathlib.Core.Path.{_≡_, refl, sym, ap, _∙_}
+use mathlib.Core.Logic.{_≢_, _⊎_, inl, inr}
+use mathlib.Core.Bool.{Bool, true, false, cond, not, _&&_, _||_}
+use mathlib.Core.List.{List}
+use Prim.Native.Nat.{ℕ, _+_, _*_, _≤_, _<_}
+use native.Mathlib.Omega.{arith}
+use lib.Dec.{eqb}
+use lib.ListN.{length, take, getD}
+use lib.Seq.{take-all}
+use borrow.Author.Tests.{eq-eqb, ne-eqb}
+use Rattle.lists.specs.Lists.{sumOf, anyOf}
+use Rattle.lists.specs.Tests.{clash}
+use Rattle.lists.specs.All.{All, all-map}
+use Rattle.lists.specs.Loops.{any-more, summed-more}
+use Rattle.lists.specs.First.{firstOf, first-more}
+use Rattle.model.specs.Entries.{freeEntry, isHeld, isStream}
+use Rattle.model.specs.declared.Entry.{Entry}
+use Rattle.model.specs.declared.Table.{Table}
+use Rattle.rules.specs.Calls.{holds}
+use Rattle.rules.specs.WellFormed.{Held}
+use Rattle.laws.specs.Held.{held-is}
+use Rattle.laws.specs.Places.{Tidy}
+use Rattle.laws.specs.Closed.{mostSlots}
+use Rattle.ahead.specs.Even.{evenly}
+use Rattle.survey.specs.declared.Survey.{Survey}
+use Rattle.survey.specs.Needed.{evenNeed}
+use Rattle.survey.specs.Search.{isHeldAs, isFree, held-as}
+
+-- what a pass has found, with the entry at place i
+abbrev pub withEntry : (stream i : ℕ) → Entry → Survey → Survey
+withEntry stream i e s = record {
+  taken = s .taken || isHeldAs stream e;
+  free = cond (isFree e) (s .free) (cond (eqb (s .free) i) (i + 1) (s .free));
+  needed = s .needed + evenNeed e;
+}
+
+same-survey : {a b : Bool} {f g m n : ℕ} → a ≡ b → f ≡ g → m ≡ n
+    → _≡_ {A = Survey} (record { taken = a; free = f; needed = m }) (record { taken = b; free = g; needed = n })
+same-survey p q r = rw (p, q, r) refl
+
+-- a free place adds nothing
+pub with-free : (stream i : ℕ) (e : Entry) (s : Survey) → e .stream ≡ 0 → (isFree e ≡ true → evenNeed e ≡ 0) → s ≡ withEntry stream i e s
+with-free stream i e s z n =
+    let free : isFree e ≡ true = ap (λ b. not (not b)) (eq-eqb (e .stream) 0 z) in
+    let none = n free in
+    same-survey
+    (sym (ap (λ b. s .taken || (not b && isStream stream e)) (eq-eqb (e .stream) 0 z) ∙ or-none (s .taken)))
+    (sym (ap (λ b. cond b (s .free) (cond (eqb (s .free) i) (i + 1) (s .free))) free))
+    (omega arith)
+  where
+    or-none : (b : Bool) → (b || false) ≡ b
+    or-none true = refl
+    or-none false = refl
+
+-- a held one
+pub with-held : (stream i : ℕ) (e : Entry) (s : Survey) {b : Bool} {f m : ℕ} → e .stream ≢ 0 → b ≡ (s .taken || isHeldAs stream e)
+    → f ≡ cond (eqb (s .free) i) (i + 1) (s .free) → m ≡ s .needed + evenNeed e
+    → record { taken = b; free = f; needed = m } ≡ withEntry stream i e s
+with-held stream i e s n t f m =
+    let held : isFree e ≡ false = ap (λ b. not (not b)) (ne-eqb (e .stream) 0 n) in
+    same-survey t (f ∙ sym (ap (λ b. cond b (s .free) (cond (eqb (s .free) i) (i + 1) (s .free))) held)) m
+
+-- no entry of a table needs more: what kind 1 takes of an interval, and a 32-bit number over another, rounded up
+abbrev pub mostNeed : ℕ
+mostNeed = mostSlots + 8589934590
+
+-- what it has found of the first i places
+pub record Passed (stream : ℕ) (es : List Entry) (i : ℕ) (s : Survey) : Type 0 where
+  pub taken : s .taken ≡ anyOf (isHeldAs stream) (take i es)
+  pub free : s .free ≡ firstOf isFree (take i es)
+  pub needed : s .needed ≡ sumOf evenNeed (take i es)
+  pub most : s .needed ≤ mostNeed * i
+
+pub passed-none : (stream : ℕ) (es : List Entry) → Passed stream es 0 (record { taken = false; free = 0; needed = 0 })
+unfolding firstOf
+passed-none stream es = record { taken = refl; free = refl; needed = refl; most = omega arith }
+
+pub passed-more : {stream i : ℕ} {es : List Entry} {s r : Survey} (d : Entry) → i < length es → Passed stream es i s
+    → r ≡ withEntry stream i (getD es i d) s → r .needed ≤ mostNeed * (i + 1) → Passed stream es (i + 1) r
+passed-more {stream} {i} {es} {s} {r} d h p e m =
+    record {
+      taken = ap (λ (x : Survey). x .taken) e ∙ any-more (isHeldAs stream) es i d h (p .taken);
+      free = ap (λ (x : Survey). x .free) e ∙ first-more isFree es i d h (p .free);
+      needed = ap (λ (x : Survey). x .needed) e ∙ summed-more evenNeed es i d h (p .needed) refl;
+      most = m;
+    }
+
+-- a free place of a table needs nothing
+pub free-needs : (t : Table) → Tidy t → All (λ e. isFree e ≡ true → evenNeed e ≡ 0) (t .entries)
+unfolding evenNeed evenly
+free-needs t w = all-map one (w .entries)
+  where
+    one : (e : Entry) → (e ≡ freeEntry) ⊎ Held (t .interval .0) e → isFree e ≡ true → evenNeed e ≡ 0
+    one e (inl z) f = ap evenNeed z
+    one e (inr h) f = absurd (clash (isFree e) f (ap not (held-is h)))
+
+-- what a whole pass has found
+pub passed-all : {stream i : ℕ} (t : Table) {s : Survey} → length (t .entries) ≤ i → Passed stream (t .entries) i s
+    → (s .taken ≡ holds t stream) × (s .free ≡ firstOf isFree (t .entries)) × (s .needed ≡ sumOf evenNeed (t .entries))
+passed-all {stream} {i} t h p =
+    let all = take-all i (t .entries) h in (
+      p .taken ∙ ap (anyOf (isHeldAs stream)) all ∙ held-as t stream,
+      p .free ∙ ap (firstOf isFree) all,
+      p .needed ∙ ap (sumOf evenNeed) all,
+    )

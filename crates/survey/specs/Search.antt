@@ -1,0 +1,130 @@
+-- Searches of a table's places: the place of a stream, the entry that is there, and that place given back; the first free place, and that
+-- place taken. Assumes nothing.
+use mathlib.Core.Path.{_≡_, refl, sym, ap, _∙_}
+use mathlib.Core.Logic.{_≢_}
+use mathlib.Core.Bool.{Bool, true, false, cond, not, _&&_, _||_}
+use mathlib.Core.List.{List, [], _∷_, map}
+use Prim.Native.Nat.{ℕ, suc, _≤_, _<_}
+use native.Mathlib.Nat.{not-suc-le-zero, le-of-suc-le-suc}
+use native.Mathlib.Omega.{arith}
+use lib.Dec.{ltb, leb, eqb}
+use lib.ListN.{length, getD, set}
+use borrow.Author.Tests.{eqb-true, eq-eqb, ne-eqb, leb-true, le-leb}
+use Rattle.lists.specs.Lists.{one-if, cons-if, keep, sumOf, anyOf}
+use Rattle.lists.specs.Tests.{clash, same-test, and-false}
+use Rattle.lists.specs.All.{all-of, map-ext}
+use Rattle.lists.specs.Sums.{sum-ext, sum-keep}
+use Rattle.lists.specs.Loops.{any-keep}
+use Rattle.lists.specs.First.{firstOf, first-most, first-some, first-set, first-kept, kept-first}
+use Rattle.model.specs.Entries.{freeEntry, isHeld, isStream}
+use Rattle.model.specs.declared.Entry.{Entry}
+use Rattle.model.specs.declared.Table.{Table}
+use Rattle.rules.specs.Calls.{places, heldOf, holds, placed}
+use Rattle.rules.specs.Reading.{entryFor}
+use Rattle.rules.specs.WellFormed.{Once}
+
+abbrev pub isHeldAs : ℕ → Entry → Bool
+isHeldAs s e = isHeld e && isStream s e
+
+abbrev pub isFree : Entry → Bool
+isFree e = not (isHeld e)
+
+-- ---- the place of a stream
+pub held-as : (t : Table) (s : ℕ) → anyOf (isHeldAs s) (t .entries) ≡ holds t s
+held-as t s = sym (any-keep (isStream s) isHeld (t .entries))
+
+pub place-held : (t : Table) (s : ℕ) → ltb (firstOf (isHeldAs s) (t .entries)) (length (t .entries)) ≡ holds t s
+place-held t s = first-some (isHeldAs s) (t .entries) ∙ held-as t s
+
+entry-cons : (s : ℕ) (e : Entry) (es : List Entry)
+    → cond (isHeldAs s e) e (entryFor s (keep isHeld es)) ≡ entryFor s (keep isHeld (e ∷ es))
+unfolding entryFor
+entry-cons s e es = go (isHeld e)
+  where
+    go : (b : Bool) → cond (b && isStream s e) e (entryFor s (keep isHeld es)) ≡ entryFor s (cons-if b e (keep isHeld es))
+    go true = refl
+    go false = refl
+
+-- the entry there, and the free one where there is none
+pub place-entry : (s : ℕ) (d : Entry) (es : List Entry) → firstOf (isHeldAs s) es < length es
+    → getD es (firstOf (isHeldAs s) es) d ≡ entryFor s (keep isHeld es)
+unfolding firstOf
+place-entry s d [] h = absurd (not-suc-le-zero h)
+place-entry s d (e ∷ es) h = go (isHeldAs s e) h (λ k. place-entry s d es k) ∙ entry-cons s e es
+  where
+    go : (b : Bool) → cond b 0 (suc (firstOf (isHeldAs s) es)) < suc (length es)
+        → (firstOf (isHeldAs s) es < length es → getD es (firstOf (isHeldAs s) es) d ≡ entryFor s (keep isHeld es))
+        → getD (e ∷ es) (cond b 0 (suc (firstOf (isHeldAs s) es))) d ≡ cond b e (entryFor s (keep isHeld es))
+    go true h r = refl
+    go false h r = r (le-of-suc-le-suc h)
+
+pub place-none : (s : ℕ) (es : List Entry) → length es ≤ firstOf (isHeldAs s) es → freeEntry ≡ entryFor s (keep isHeld es)
+unfolding firstOf entryFor
+place-none s [] h = refl
+place-none s (e ∷ es) h = go (isHeldAs s e) h (λ k. place-none s es k) ∙ entry-cons s e es
+  where
+    go : (b : Bool) → suc (length es) ≤ cond b 0 (suc (firstOf (isHeldAs s) es))
+        → (length es ≤ firstOf (isHeldAs s) es → freeEntry ≡ entryFor s (keep isHeld es))
+        → freeEntry ≡ cond b e (entryFor s (keep isHeld es))
+    go true h r = absurd (not-suc-le-zero h)
+    go false h r = r (le-of-suc-le-suc h)
+
+-- a stream number that is held is not 0, so whoever has it holds its place
+named : (s : ℕ) → s ≢ 0 → (e : Entry) → isHeldAs s e ≡ isStream s e
+named s n e = go (isStream s e) refl
+  where
+    go : (b : Bool) → isStream s e ≡ b → (isHeld e && b) ≡ b
+    go true q = ap (λ b. not b && true) (ne-eqb (e .stream) 0 (λ z. n (sym (eqb-true (e .stream) s q) ∙ z)))
+    go false q = and-false (isHeld e)
+
+nobody-0 : (es : List Entry) → anyOf (isHeldAs 0) es ≡ false
+nobody-0 [] = refl
+nobody-0 (e ∷ es) = go (eqb (e .stream) 0) (nobody-0 es)
+  where
+    go : (b : Bool) → anyOf (isHeldAs 0) es ≡ false → ((not b && b) || anyOf (isHeldAs 0) es) ≡ false
+    go true h = h
+    go false h = h
+
+held-once : (s : ℕ) (es : List Entry) → Once (keep isHeld es) → sumOf (λ e. one-if (isHeldAs s e)) es ≤ 1
+held-once s es w =
+    omega (
+      arith,
+      w s,
+      sum-keep (λ e. one-if (isStream s e)) isHeld es,
+      sum-ext (λ e. one-if (isHeldAs s e)) (λ e. cond (isHeld e) (one-if (isStream s e)) 0)
+          (all-of es (λ e. both (isHeld e) (isStream s e))),
+    )
+  where
+    both : (b c : Bool) → one-if (b && c) ≡ cond b (one-if c) 0
+    both true c = refl
+    both false c = refl
+
+-- that place becomes free
+pub place-freed : (t : Table) (s : ℕ) → Once (heldOf t) → holds t s ≡ true
+    → set (t .entries) (firstOf (isHeldAs s) (t .entries)) freeEntry ≡ map (λ e. cond (isStream s e) freeEntry e) (t .entries)
+place-freed t s w h =
+    first-set (isHeldAs s) freeEntry (t .entries) (held-once s (t .entries) w)
+    ∙ map-ext (λ e. cond (isHeldAs s e) freeEntry e) (λ e. cond (isStream s e) freeEntry e)
+    (all-of (t .entries) (λ e. ap (λ b. cond b freeEntry e) (named s somebody e)))
+  where
+    somebody : s ≢ 0
+    somebody z =
+        clash (holds t s) h (sym (held-as t s) ∙ ap (λ n. anyOf (isHeldAs n) (t .entries)) z ∙ nobody-0 (t .entries))
+
+-- ---- the first free place
+pub place-taken : (e : Entry) (es : List Entry) → set es (firstOf isFree es) e ≡ placed e es
+unfolding firstOf placed
+place-taken e [] = refl
+place-taken e (f ∷ fs) = go (isHeld f) (place-taken e fs)
+  where
+    go : (b : Bool) → set fs (firstOf isFree fs) e ≡ placed e fs
+        → set (f ∷ fs) (cond (not b) 0 (suc (firstOf isFree fs))) e ≡ cond b (f ∷ placed e fs) (e ∷ fs)
+    go true h = ap (λ l. f ∷ l) h
+    go false h = refl
+
+pub place-full : (es : List Entry) → length es ≡ places → leb places (firstOf isFree es) ≡ leb places (length (keep isHeld es))
+place-full es l =
+    same-test (leb places (firstOf isFree es)) (leb places (length (keep isHeld es)))
+    (λ h. let k = leb-true places (firstOf isFree es) h in le-leb places (length (keep isHeld es)) (omega (arith, first-kept isHeld es)))
+    (λ h. let k = leb-true places (length (keep isHeld es)) h in let m : length es ≤ length (keep isHeld es) = omega arith in
+    le-leb places (firstOf isFree es) (omega (arith, kept-first isHeld es m)))

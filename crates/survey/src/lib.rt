@@ -1,0 +1,131 @@
+// What a call finds in a table's places in one pass: the place of a stream, the first free place, and what an even share of each interval
+// takes. One pass finds all that an offer asks before looking ahead, since each function that reads the places has a copy of the table.
+ghost use mathlib.Core.Bool.{true, cond, _||_};
+ghost use mathlib.Core.Path.{_≡_};
+ghost use Prim.Native.Nat.{_+_, _*_, _≤_, _<_};
+ghost use lib.Dec.{eqb, leb};
+ghost use Rattle.lists.specs.Lists.{sumOf};
+ghost use Rattle.lists.specs.First.{firstOf};
+ghost use Rattle.rules.specs.Share.{load};
+ghost use Rattle.rules.specs.Calls.{heldOf, holds};
+ghost use Rattle.laws.specs.Closed.{mostSlots};
+ghost use Rattle.laws.specs.Places.{Tidy};
+ghost use Rattle.ahead.specs.Even.{evenly};
+ghost use Rattle.survey.specs.Needed.{loadOf, evenNeed};
+ghost use Rattle.survey.specs.Search.{isHeldAs, isFree};
+ghost use Rattle.survey.specs.Passes.{withEntry, mostNeed};
+
+pub mod even; // even.rt: what an even share takes of an interval
+
+use model::Entry;
+use model::Slots;
+use model::Table;
+
+// Stream 0 stands for a free place, and is held by nobody.
+fn is_held_as(e: Entry, stream: u32) -> bool
+    ensures { λ r. ⌜ r ≡ isHeldAs stream e ⌝ }
+{
+    let own = e.stream;
+    if own == 0 {
+        return false;
+    }
+    own == stream
+}
+
+// The place of the entry that holds the stream; 32 where none does.
+pub fn place_of(t: Table, stream: u32) -> usize
+    ensures { λ r. ⌜ r ≡ firstOf (isHeldAs stream) (t .entries) ⌝ }
+{
+    for i in 0..32 {
+        let e = t.entries[i];
+        if is_held_as(e, stream) {
+            return i;
+        }
+    }
+    32
+}
+
+// ---- what an offer asks of the places
+// Whether the stream is held; the first free place, 32 where none is free; the slots of an interval that an even share takes.
+pub struct Survey {
+    pub taken: bool,
+    pub free: usize,
+    pub needed: u64,
+}
+
+fn or_else(a: bool, b: bool) -> bool
+    ensures { λ r. ⌜ r ≡ (a || b) ⌝ }
+{
+    if a {
+        return true;
+    }
+    b
+}
+
+// Place i is held: where every place before it is too, the next may be free.
+fn free_after(free: usize, i: usize) -> usize
+    requires { ⌜ i < 32 ⌝ }
+    ensures { λ r. ⌜ r ≡ cond (eqb free i) (i + 1) free ⌝ }
+{
+    if free == i {
+        return i + 1;
+    }
+    free
+}
+
+// One place more: a free one adds nothing.
+fn look_at(s: Survey, e: Entry, i: usize, stream: u32) -> Survey
+    requires { ⌜ (i < 32) × (s .needed ≤ mostNeed * i) ⌝ }
+    requires { ⌜ (loadOf e ≤ mostSlots) × (isFree e ≡ true → evenNeed e ≡ 0) ⌝ }
+    ensures { λ r. ⌜ (r ≡ withEntry stream i e s) × (r .needed ≤ mostNeed * (i + 1)) ⌝ }
+{
+    let own = e.stream;
+    if own == 0 {
+        return s;
+    }
+    let taken = or_else(s.taken, is_held_as(e, stream));
+    let free = free_after(s.free, i);
+    let need = even::need_of(e);
+    Survey {
+        taken,
+        free,
+        needed: s.needed + need,
+    }
+}
+
+pub fn survey_for(t: Table, stream: u32) -> Survey
+    requires { ⌜ Tidy t ⌝ }
+    ensures { λ r. ⌜ (r .taken ≡ holds t stream) × (r .free ≡ firstOf isFree (t .entries)) × (r .needed ≡ sumOf evenNeed (t .entries)) ⌝ }
+{
+    let mut s = Survey {
+        taken: false,
+        free: 0,
+        needed: 0,
+    };
+    for i in 0..32 {
+        let e = t.entries[i];
+        s = look_at(s, e, i, stream);
+    }
+    s
+}
+
+// ---- a quick yes
+// Whether an interval has room for an even share of what is held and of one entry more. Where it has not, the answer is still open.
+pub fn fits_with(needed: u64, e: Entry, interval: Slots) -> bool
+    ensures { λ r. ⌜ r ≡ leb (needed + evenNeed e) (interval .0) ⌝ }
+{
+    let slots = interval.0 as u64;
+    if slots < needed {
+        return false;
+    }
+    even::need_of(e) <= slots - needed
+}
+
+pub fn fits_evenly(t: Table) -> bool
+    requires { ⌜ Tidy t ⌝ }
+    ensures { λ r. ⌜ r ≡ leb (load (heldOf t) + sumOf evenly (t .entries)) (t .interval .0) ⌝ }
+{
+    let interval = t.interval;
+    let s = survey_for(t, 0);
+    s.needed <= interval.0 as u64
+}
