@@ -137,43 +137,40 @@ fn owed_of(e: Entry) -> u32
     0
 }
 
-// Step B by numbers, place by place: a rank, and what is owed there. From place `used` on all are free.
+// A table read once: the load of step A, and step B by numbers, place by place: a rank, and what is owed there. From place `used` on all
+// are free.
 pub struct Queue {
     pub used: usize,
+    pub load: u64,
     pub ranks: [u64; 32],
     pub owed: [u32; 32],
 }
 
-// The places up to the last that is held.
-fn used_places(t: Table) -> usize
-    requires { ⌜ Tidy t ⌝ }
-    ensures { λ r. ⌜ Used r t ⌝ }
-{
-    let mut n: usize = 32;
-    while 0 < n {
-        let e = t.entries[n - 1];
-        let stream = e.stream;
-        if stream != 0 {
-            return n;
-        }
-        n = n - 1;
-    }
-    0
-}
-
+// One loop finds all figures: each function that takes a table copies it first.
 pub fn queue_of(t: Table) -> Queue
     requires { ⌜ Tidy t ⌝ }
     ensures { λ r. ⌜ Queued t r ⌝ }
 {
-    let used = used_places(t);
+    let mut used: usize = 0;
+    let mut load: u64 = 0;
     let mut ranks = [0u64; 32];
     let mut owed = [0u32; 32];
-    for i in 0..used {
+    for i in 0..32 {
         let e = t.entries[i];
-        ranks[i] = rank(e.left.0, e.kind, e.stream);
-        owed[i] = owed_of(e);
+        let stream = e.stream;
+        if stream != 0 {
+            used = i + 1;
+            load = load + load_of(e);
+            ranks[i] = rank(e.left.0, e.kind, stream);
+            owed[i] = owed_of(e);
+        }
     }
-    Queue { used, ranks, owed }
+    Queue {
+        used,
+        load,
+        ranks,
+        owed,
+    }
 }
 
 fn owed_if_lower(owed: u32, rank: u64, own: u64) -> u32
