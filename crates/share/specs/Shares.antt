@@ -74,6 +74,9 @@ module _ (t : Table) {s : Shares} (e : s ≡ sharesOf t) (i : ℕ) (h : i < leng
 
 -- what a program finds of a table's queue
 module _ (t : Table) (w : Tidy t) {q : Queue} (k : Queued t q) where
+  pub capacity-found : {c : ℕ} → c ≡ t .interval .0 - q .load → c ≡ capacity (t .interval .0) (heldOf t)
+  capacity-found e = e ∙ ap (λ n. t .interval .0 - n) (k .load)
+
   pub pieces-found : {c : ℕ} {ps : List ℕ} → c ≡ capacity (t .interval .0) (heldOf t) → ps ≡ piecesOf c (q .ranks) (q .owed)
       → ps ≡ piecesIn t
   pieces-found {c} e p = takes-found t w k c p ∙ ap (λ n. map (takes n (t .entries)) (t .entries)) e

@@ -320,7 +320,8 @@ pub fn shares_of(t: Table, q: Queue) -> Shares
     let used = q.used;
     let ranks = q.ranks;
     let owed = q.owed;
-    let capacity = capacity(t);
+    let interval = t.interval;
+    let capacity = left_of(interval, q.load);
     let pieces = pieces(q, capacity);
     let remains = left_of(capacity, owed_below(&ranks, &owed, used, u64::MAX));
     let r = rooms_of(t, used, pieces);
