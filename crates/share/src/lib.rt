@@ -39,7 +39,7 @@ pub fn smaller(a: u32, b: u32) -> u32
 }
 
 // Slots less what is taken of them, and 0 where that is more.
-fn left_of(slots: Slots, taken: u64) -> Slots
+pub fn left_of(slots: Slots, taken: u64) -> Slots
     ensures { λ r. ⌜ r .0 ≡ slots .0 - taken ⌝ }
 {
     let all = slots.0 as u64;
