@@ -8,8 +8,7 @@ ghost use lib.Dec.{ltb};
 ghost use lib.ListN.{getD};
 ghost use Rattle.lists.specs.Spare.{Spare};
 ghost use Rattle.model.specs.Entries.{isKind, isPiece};
-ghost use Rattle.rules.specs.Share.{load, overfull, capacity as capacityOf};
-ghost use Rattle.rules.specs.Share.{stepB, headroom, jobCount, weight, extra};
+ghost use Rattle.rules.specs.Share.{load, stepB, headroom, jobCount, weight, extra};
 ghost use Rattle.rules.specs.Slots.{jobLength};
 ghost use Rattle.rules.specs.Calls.{heldOf};
 ghost use Rattle.laws.specs.Places.{Tidy};
@@ -94,23 +93,6 @@ pub fn load(t: Table) -> u64
         all = all + load_of(e);
     }
     all
-}
-
-pub fn overfull(t: Table) -> bool
-    requires { ⌜ Tidy t ⌝ }
-    ensures { λ r. ⌜ r ≡ overfull (t .interval .0) (heldOf t) ⌝ }
-{
-    let slots = t.interval.0 as u64;
-    slots < load(t)
-}
-
-// E, and 0 for a table that is overfull.
-pub fn capacity(t: Table) -> Slots
-    requires { ⌜ Tidy t ⌝ }
-    ensures { λ r. ⌜ r .0 ≡ capacityOf (t .interval .0) (heldOf t) ⌝ }
-{
-    let interval = t.interval;
-    left_of(interval, load(t))
 }
 
 // ---- B. kinds 2 and 3 take what they are owed
