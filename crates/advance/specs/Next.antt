@@ -3,11 +3,12 @@
 use mathlib.Core.Path.{_≡_, refl, sym, ap, ap₂, _∙_}
 use mathlib.Core.Bool.{Bool, _&&_}
 use mathlib.Core.List.{List, [], map}
-use Prim.Native.Nat.{ℕ, _+_, _≤_, max, zero-le}
+use Prim.Native.Nat.{ℕ, _+_, _≤_, _<_, max, zero-le}
 use lib.Dec.{ltb, eqb}
+use lib.ListN.{length, getD}
 use Rattle.lists.specs.Lists.{anyOf}
 use Rattle.lists.specs.All.{All, all-map, all-zip, map-ext}
-use Rattle.lists.specs.Loops.{any-ext, any-keep}
+use Rattle.lists.specs.Loops.{mapped, mapped-at, any-ext, any-keep}
 use Rattle.model.specs.Entries.{freeEntry, isHeld, isPiece}
 use Rattle.model.specs.declared.Entry.{Entry}
 use Rattle.model.specs.declared.Table.{Table}
@@ -28,6 +29,11 @@ use Rattle.share.specs.declared.Sharing.{Sharing}
 
 abbrev pub withEntries : Table → List Entry → Table
 withEntries t ps = record { interval = t .interval; entries = ps }
+
+-- a loop that moves the places on has not yet come to place i
+pub unmoved : (t : Table) (f : Entry → Entry) {next : Table} {i : ℕ} → next ≡ withEntries t (mapped f i (t .entries))
+    → i < length (t .entries) → getD (next .entries) i freeEntry ≡ getD (t .entries) i freeEntry
+unmoved t f {i = i} e h = ap (λ (u : Table). getD (u .entries) i freeEntry) e ∙ mapped-at f (t .entries) i freeEntry h
 
 -- what an entry was given in its period, with its grant, is no more than an amount of its request: it has 32 bits
 abbrev pub WithinAmounts : Granted → Entry → Type 0

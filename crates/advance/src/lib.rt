@@ -95,7 +95,8 @@ fn misses_deadline(e: Entry, piece: u32) -> bool
 }
 
 // ---- a table
-// The loops stop after the last place that is held: a free place stays free and misses nothing.
+// The loops stop after the last place that is held: a free place stays free and misses nothing. Those that move the table on read each
+// entry where they write its next one, so that one copy of the table is made, not two.
 pub fn advance(t: Table, used: usize, s: Shares) -> Table
     requires { ⌜ Tidy t × Used used t ⌝ }
     requires { ⌜ s ≡ sharesOf t ⌝ }
@@ -103,7 +104,7 @@ pub fn advance(t: Table, used: usize, s: Shares) -> Table
 {
     let mut next = t;
     for i in 0..used {
-        let e = t.entries[i];
+        let e = next.entries[i];
         let g = Granted {
             piece: Slots(s.pieces[i]),
             extra: Slots(s.extras[i]),
@@ -122,7 +123,7 @@ pub fn advance_without_extras(t: Table, used: usize, pieces: [u32; 32]) -> Table
 {
     let mut next = t;
     for i in 0..used {
-        let e = t.entries[i];
+        let e = next.entries[i];
         let g = Granted {
             piece: Slots(pieces[i]),
             extra: Slots(0),

@@ -52,6 +52,12 @@ module _ {A : Type 0} (f : A → A) where
   pub mapped-more : (xs : List A) (i : ℕ) (d : A) → i < length xs → set (mapped i xs) i (f (getD xs i d)) ≡ mapped (i + 1) xs
   mapped-more xs i d h = rw add-one (mapped-suc xs i d h)
 
+  -- the place of the turn is not replaced yet
+  pub mapped-at : (xs : List A) (i : ℕ) (d : A) → i < length xs → getD (mapped i xs) i d ≡ getD xs i d
+  mapped-at [] i d h = absurd (not-suc-le-zero h)
+  mapped-at (x ∷ xs) zero d h = refl
+  mapped-at (x ∷ xs) (suc i) d h = mapped-at xs i d (le-of-suc-le-suc h)
+
   pub mapped-all : (xs : List A) (i : ℕ) → length xs ≤ i → mapped i xs ≡ map f xs
   mapped-all [] zero h = refl
   mapped-all [] (suc i) h = refl

@@ -3,23 +3,33 @@
 use mathlib.Core.Path.{_≡_, refl, sym, ap, ap₂, subst, _∙_}
 use mathlib.Core.Bool.{Bool, false, _||_}
 use mathlib.Core.List.{List, [], _∷_, _++_, map}
-use Prim.Native.Nat.{ℕ, zero, suc, _+_, _-_, _≤_, _<_}
+use Prim.Native.Nat.{ℕ, zero, suc, _+_, _-_, _≤_, _<_, zero-le}
 use native.Mathlib.Nat.{not-suc-le-zero, le-of-suc-le-suc}
 use native.Mathlib.Numerals.{add-one}
 use native.Mathlib.Omega.{arith}
-use lib.ListN.{length, take, drop, set, getD, replicate, length-drop}
+use lib.ListN.{length, take, drop, set, getD, replicate, length-drop, drop-of-length-le}
 use Rattle.lists.specs.Lists.{sumOf, anyOf}
 use Rattle.lists.specs.All.{All, stop, and}
-use Rattle.lists.specs.Loops.{left-next}
 
 module _ {A : Type 0} (d : A) where
   -- from place n on each is d
   abbrev pub Spare : ℕ → List A → Type 0
   Spare n xs = All (λ x. x ≡ d) (drop n xs)
 
-  -- one place more
-  pub spare-back : (n : ℕ) (xs : List A) (x : A) → n < length xs → getD xs n x ≡ d → Spare (n + 1) xs → Spare n xs
-  spare-back n xs x l e h = rw (left-next xs n x l) (and e h)
+  -- nothing is left there
+  pub spare-end : (n : ℕ) (xs : List A) → length xs ≤ n → Spare n xs
+  spare-end n xs h = rw (drop-of-length-le xs h) stop
+
+  -- among the first i elements, and one more
+  spare-suc : (n i : ℕ) (xs : List A) (z : A) → i < length xs → getD xs i z ≡ d → Spare n (take i xs) → Spare n (take (suc i) xs)
+  spare-suc n i [] z l e h = absurd (not-suc-le-zero l)
+  spare-suc zero zero (x ∷ xs) z l e h = and e stop
+  spare-suc zero (suc i) (x ∷ xs) z l e (and q h) = and q (spare-suc zero i xs z (le-of-suc-le-suc l) e h)
+  spare-suc (suc n) zero (x ∷ xs) z l e h = spare-end n [] zero-le
+  spare-suc (suc n) (suc i) (x ∷ xs) z l e h = spare-suc n i xs z (le-of-suc-le-suc l) e h
+
+  pub spare-more : (n i : ℕ) (xs : List A) (z : A) → i < length xs → getD xs i z ≡ d → Spare n (take i xs) → Spare n (take (i + 1) xs)
+  spare-more n i xs z l e h = rw add-one (spare-suc n i xs z l e h)
 
   pub spare-map : {B : Type 0} (f : A → B) (n : ℕ) (xs : List A) → Spare n xs → All (λ y. y ≡ f d) (drop n (map f xs))
   spare-map f zero [] h = stop
@@ -62,6 +72,19 @@ module _ {A : Type 0} (d : A) where
   begun-more m i xs z e l p q =
       let up : m - i ≡ suc (m - (i + 1)) = omega arith in
       rw (p, q, up, add-one i) (begun-suc i (m - suc i) xs z (omega arith))
+
+  -- at a place of d nothing is to be done
+  begun-pass : (i r : ℕ) (xs : List A) (z : A) → i < length xs → getD xs i z ≡ d
+      → take i xs ++ replicate (suc r) d ≡ take (suc i) xs ++ replicate r d
+  begun-pass i r [] z h e = absurd (not-suc-le-zero h)
+  begun-pass zero r (x ∷ xs) z h e = ap (λ y. y ∷ replicate r d) (sym e)
+  begun-pass (suc i) r (x ∷ xs) z h e = ap (λ l. x ∷ l) (begun-pass i r xs z (le-of-suc-le-suc h) e)
+
+  pub begun-same : {ys : List A} (m i : ℕ) (xs : List A) (z : A) → length xs ≡ m → i < m → ys ≡ begun m i xs → getD xs i z ≡ d
+      → ys ≡ begun m (i + 1) xs
+  begun-same m i xs z e l p q =
+      let up : m - i ≡ suc (m - (i + 1)) = omega arith in
+      rw (p, up, add-one i) (begun-pass i (m - suc i) xs z (omega arith) q)
 
   begun-spare : (i r : ℕ) (xs : List A) → length (drop i xs) ≡ r → Spare i xs → take i xs ++ replicate r d ≡ xs
   begun-spare zero r [] e h = rw (sym e)

@@ -5,12 +5,14 @@ ghost use Rattle.rules.specs.Share.{capacity as capacityOf};
 ghost use Rattle.rules.specs.Calls.{heldOf};
 ghost use Rattle.laws.specs.Places.{Tidy};
 ghost use Rattle.ahead.specs.Served.{later, served};
+ghost use Rattle.share.specs.Queues.{Queued};
 ghost use Rattle.share.specs.Shares.{granted};
 ghost use Rattle.advance.specs.Next.{WithinAmounts, withEntries};
 ghost use Rattle.lookahead.specs.Leaps.{eventAt, nearest, quietFor, leapt};
 use model::Entry;
 use model::Slots;
 use model::Table;
+use share::Queue;
 
 // No life and no period is longer.
 const LONGEST: u32 = 65535;
@@ -71,24 +73,23 @@ fn later(e: Entry, n: u32, piece: Slots) -> Entry
     next
 }
 
-fn skip(t: Table, n: u32, slots: Slots) -> Table
-    requires { ⌜ Tidy t ⌝ }
+fn skip(t: Table, q: Queue, n: u32, slots: Slots) -> Table
+    requires { ⌜ Tidy t × Queued t q ⌝ }
     ensures { λ r. ⌜ r ≡ withEntries t (served n (slots .0) (t .entries)) ⌝ }
 {
-    let q = share::queue_of(t);
     let used = q.used;
     let pieces = share::pieces(q, slots);
     let mut next = t;
     for i in 0..used {
-        let e = t.entries[i];
+        let e = next.entries[i];
         let f = later(e, n, Slots(pieces[i]));
         next.entries[i] = f;
     }
     next
 }
 
-pub fn leapt(t: Table, capacity: Slots) -> Table
-    requires { ⌜ Tidy t ⌝ }
+pub fn leapt(t: Table, q: Queue, capacity: Slots) -> Table
+    requires { ⌜ Tidy t × Queued t q ⌝ }
     requires { ⌜ capacity .0 ≡ capacityOf (t .interval .0) (heldOf t) ⌝ }
     ensures { λ r. ⌜ r ≡ leapt t ⌝ }
 {
@@ -97,5 +98,5 @@ pub fn leapt(t: Table, capacity: Slots) -> Table
         return t;
     }
     let slots = Slots(n * capacity.0);
-    skip(t, n, slots)
+    skip(t, q, n, slots)
 }

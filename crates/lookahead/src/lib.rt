@@ -24,7 +24,8 @@ fn any_held(t: Table) -> bool
     false
 }
 
-// Where an even share is enough for what is left, no more intervals are looked at.
+// Where an even share is enough for what is left, no more intervals are looked at. A leap leaves the load and so the capacity as they
+// are, but not the ranks and what is owed: after it the queue is made again.
 // Stops at the first miss, and when all lives are used up.
 pub fn fits_ahead(t: Table) -> bool
     requires { ⌜ Tidy t ⌝ }
@@ -35,14 +36,16 @@ pub fn fits_ahead(t: Table) -> bool
         if survey::fits_evenly(now) {
             return true;
         }
-        if share::overfull(now) {
+        let q = share::queue_of(now);
+        let interval = now.interval;
+        if (interval.0 as u64) < q.load {
             return false;
         }
-        let capacity = share::capacity(now);
-        let there = leap::leapt(now, capacity);
-        let q = share::queue_of(there);
-        let used = q.used;
-        let pieces = share::pieces(q, capacity);
+        let capacity = share::left_of(interval, q.load);
+        let there = leap::leapt(now, q, capacity);
+        let r = share::queue_of(there);
+        let used = r.used;
+        let pieces = share::pieces(r, capacity);
         if advance::misses(there, used, pieces) {
             return false;
         }

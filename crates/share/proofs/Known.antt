@@ -19,7 +19,7 @@ use Rattle.share.specs.Queues.{Used}
 use Rattle.share.proofs.Queue as Q
 
 pub queue-32 : (q : Queue) {vs : List Val} → Is Q.the-row q vs → (length (q .ranks) ≡ 32) × (length (q .owed) ≡ 32)
-queue-32 q p = (sym (length-map (q .ranks) _) ∙ p .1 .1 .1 .0 .1 .0 .1, sym (length-map (q .owed) _) ∙ p .1 .1 .1 .1 .0 .1 .0 .1)
+queue-32 q p = (sym (length-map (q .ranks) _) ∙ p .1 .1 .1 .1 .0 .1 .0 .1, sym (length-map (q .owed) _) ∙ p .1 .1 .1 .1 .1 .0 .1 .0 .1)
 
 module _ (t : Table) {vs : List Val} (p : Is T.the-row t vs) where
   places-32 : length (t .entries) ≡ 32
@@ -32,7 +32,7 @@ module _ (t : Table) {vs : List Val} (p : Is T.the-row t vs) where
   pub past : {i : ℕ} → 32 ≤ i → length (t .entries) ≤ i
   past h = omega (arith, places-32)
 
-  size : (f : Entry → ℕ) → length (map f (t .entries)) ≡ 32
+  pub size : (f : Entry → ℕ) → length (map f (t .entries)) ≡ 32
   size f = length-map (t .entries) f ∙ places-32
 
   -- ---- a loop up to place n, from where on all are free

@@ -4,7 +4,7 @@ use mathlib.Core.Path.{_≡_, refl, sym, ap, ap₂, _∙_}
 use mathlib.Core.Logic.{_⊎_, inl, inr}
 use mathlib.Core.Bool.{Bool, true, false, cond}
 use mathlib.Core.List.{List, [], _∷_, map}
-use Prim.Native.Nat.{ℕ, zero, suc, _+_, _-_, _≤_, _<_, min}
+use Prim.Native.Nat.{ℕ, zero, suc, _+_, _*_, _-_, _≤_, _<_, min}
 use native.Mathlib.Nat.{not-suc-le-zero, le-of-suc-le-suc}
 use native.Mathlib.Numerals.{add-one}
 use native.Mathlib.Omega.{arith}
@@ -16,10 +16,11 @@ use Rattle.lists.specs.Tests.{cond-zero}
 use Rattle.lists.specs.All.{All, stop, and, all-at, all-map, map-ext}
 use Rattle.lists.specs.Sums.{sum-ext}
 use Rattle.lists.specs.Spare.{Spare, spare-map}
-use Rattle.model.specs.Entries.{freeEntry, isPiece}
+use Rattle.model.specs.Entries.{freeEntry, isKind, isPiece}
 use Rattle.model.specs.declared.Entry.{Entry}
 use Rattle.model.specs.declared.Table.{Table}
-use Rattle.rules.specs.Share.{sooner}
+use Rattle.rules.specs.Share.{load, sooner}
+use Rattle.rules.specs.Calls.{heldOf}
 use Rattle.rules.specs.WellFormed.{Held}
 use Rattle.laws.specs.Held.{Fraction, Piece, held-kinds, piece-of, fraction-not}
 use Rattle.laws.specs.Turns.{owedBefore}
@@ -39,6 +40,10 @@ free-place t w i d h z = elim (all-at _ (t .entries) d (w .entries) i h) [ inl q
   where
     held-least : {B : ℕ} {e : Entry} → Held B e → 1 ≤ e .stream
     held-least k = elim (held-kinds k) [ inl f ↦ f .stream-least | inr p ↦ p .stream-least ]
+
+-- what a kind 1 stream takes of an interval; a piece has no load
+abbrev pub loadOf : Entry → ℕ
+loadOf e = cond (isKind 1 e) (e .parts * e .min .0) 0
 
 -- what is owed to a piece; a kind 1 stream is owed nothing
 abbrev pub owedTo : Entry → ℕ
@@ -73,6 +78,7 @@ pub record Queueing (ranks owed : List ℕ) (used : ℕ) : Type 0 where
 -- the queue of a table
 pub record Queued (t : Table) (q : Queue) : Type 0 where
   pub used : Used (q .used) t
+  pub load : q .load ≡ load (heldOf t)
   pub ranks : q .ranks ≡ map rank (t .entries)
   pub owed : q .owed ≡ map owedTo (t .entries)
 

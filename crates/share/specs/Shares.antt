@@ -4,13 +4,14 @@ use mathlib.Core.Path.{_≡_, sym, ap, ap₂, _∙_}
 use mathlib.Core.List.{List, map}
 use Prim.Native.Nat.{ℕ, _-_, _<_}
 use native.Mathlib.Omega.{arith}
+use lib.Dec.{ltb}
 use lib.ListN.{length, getD}
 use Rattle.lists.specs.All.{All, all-zip}
 use Rattle.lists.specs.Loops.{map-at}
 use Rattle.model.specs.Entries.{freeEntry}
 use Rattle.model.specs.declared.Entry.{Entry}
 use Rattle.model.specs.declared.Table.{Table}
-use Rattle.rules.specs.Share.{capacity, stepB, remains, headroom, weight, extra}
+use Rattle.rules.specs.Share.{overfull, capacity, stepB, remains, headroom, weight, extra}
 use Rattle.rules.specs.Calls.{heldOf}
 use Rattle.laws.specs.Turns.{stepBOf}
 use Rattle.laws.specs.Extras.{stepCOf, extra-le}
@@ -74,6 +75,12 @@ module _ (t : Table) {s : Shares} (e : s ≡ sharesOf t) (i : ℕ) (h : i < leng
 
 -- what a program finds of a table's queue
 module _ (t : Table) (w : Tidy t) {q : Queue} (k : Queued t q) where
+  pub overfull-found : ltb (t .interval .0) (q .load) ≡ overfull (t .interval .0) (heldOf t)
+  overfull-found = ap (ltb (t .interval .0)) (k .load)
+
+  pub capacity-found : {c : ℕ} → c ≡ t .interval .0 - q .load → c ≡ capacity (t .interval .0) (heldOf t)
+  capacity-found e = e ∙ ap (λ n. t .interval .0 - n) (k .load)
+
   pub pieces-found : {c : ℕ} {ps : List ℕ} → c ≡ capacity (t .interval .0) (heldOf t) → ps ≡ piecesOf c (q .ranks) (q .owed)
       → ps ≡ piecesIn t
   pieces-found {c} e p = takes-found t w k c p ∙ ap (λ n. map (takes n (t .entries)) (t .entries)) e

@@ -8,8 +8,7 @@ ghost use lib.Dec.{ltb};
 ghost use lib.ListN.{getD};
 ghost use Rattle.lists.specs.Spare.{Spare};
 ghost use Rattle.model.specs.Entries.{isKind, isPiece};
-ghost use Rattle.rules.specs.Share.{load, overfull, capacity as capacityOf};
-ghost use Rattle.rules.specs.Share.{stepB, headroom, jobCount, weight, extra};
+ghost use Rattle.rules.specs.Share.{load, stepB, headroom, jobCount, weight, extra};
 ghost use Rattle.rules.specs.Slots.{jobLength};
 ghost use Rattle.rules.specs.Calls.{heldOf};
 ghost use Rattle.laws.specs.Places.{Tidy};
@@ -39,7 +38,7 @@ pub fn smaller(a: u32, b: u32) -> u32
 }
 
 // Slots less what is taken of them, and 0 where that is more.
-fn left_of(slots: Slots, taken: u64) -> Slots
+pub fn left_of(slots: Slots, taken: u64) -> Slots
     ensures { λ r. ⌜ r .0 ≡ slots .0 - taken ⌝ }
 {
     let all = slots.0 as u64;
@@ -96,23 +95,6 @@ pub fn load(t: Table) -> u64
     all
 }
 
-pub fn overfull(t: Table) -> bool
-    requires { ⌜ Tidy t ⌝ }
-    ensures { λ r. ⌜ r ≡ overfull (t .interval .0) (heldOf t) ⌝ }
-{
-    let slots = t.interval.0 as u64;
-    slots < load(t)
-}
-
-// E, and 0 for a table that is overfull.
-pub fn capacity(t: Table) -> Slots
-    requires { ⌜ Tidy t ⌝ }
-    ensures { λ r. ⌜ r .0 ≡ capacityOf (t .interval .0) (heldOf t) ⌝ }
-{
-    let interval = t.interval;
-    left_of(interval, load(t))
-}
-
 // ---- B. kinds 2 and 3 take what they are owed
 pub fn is_piece(e: Entry) -> bool
     ensures { λ r. ⌜ r ≡ isPiece e ⌝ }
@@ -137,43 +119,40 @@ fn owed_of(e: Entry) -> u32
     0
 }
 
-// Step B by numbers, place by place: a rank, and what is owed there. From place `used` on all are free.
+// A table read once: the load of step A, and step B by numbers, place by place: a rank, and what is owed there. From place `used` on all
+// are free.
 pub struct Queue {
     pub used: usize,
+    pub load: u64,
     pub ranks: [u64; 32],
     pub owed: [u32; 32],
 }
 
-// The places up to the last that is held.
-fn used_places(t: Table) -> usize
-    requires { ⌜ Tidy t ⌝ }
-    ensures { λ r. ⌜ Used r t ⌝ }
-{
-    let mut n: usize = 32;
-    while 0 < n {
-        let e = t.entries[n - 1];
-        let stream = e.stream;
-        if stream != 0 {
-            return n;
-        }
-        n = n - 1;
-    }
-    0
-}
-
+// One loop finds all figures: each function that takes a table copies it first.
 pub fn queue_of(t: Table) -> Queue
     requires { ⌜ Tidy t ⌝ }
     ensures { λ r. ⌜ Queued t r ⌝ }
 {
-    let used = used_places(t);
+    let mut used: usize = 0;
+    let mut load: u64 = 0;
     let mut ranks = [0u64; 32];
     let mut owed = [0u32; 32];
-    for i in 0..used {
+    for i in 0..32 {
         let e = t.entries[i];
-        ranks[i] = rank(e.left.0, e.kind, e.stream);
-        owed[i] = owed_of(e);
+        let stream = e.stream;
+        if stream != 0 {
+            used = i + 1;
+            load = load + load_of(e);
+            ranks[i] = rank(e.left.0, e.kind, stream);
+            owed[i] = owed_of(e);
+        }
     }
-    Queue { used, ranks, owed }
+    Queue {
+        used,
+        load,
+        ranks,
+        owed,
+    }
 }
 
 fn owed_if_lower(owed: u32, rank: u64, own: u64) -> u32
@@ -323,7 +302,8 @@ pub fn shares_of(t: Table, q: Queue) -> Shares
     let used = q.used;
     let ranks = q.ranks;
     let owed = q.owed;
-    let capacity = capacity(t);
+    let interval = t.interval;
+    let capacity = left_of(interval, q.load);
     let pieces = pieces(q, capacity);
     let remains = left_of(capacity, owed_below(&ranks, &owed, used, u64::MAX));
     let r = rooms_of(t, used, pieces);

@@ -9,9 +9,9 @@ use Rattle.model.specs.declared.Table.{Table}
 use Rattle.laws.specs.Settled.{after-free}
 use Rattle.share.proofs.Known.{used-inside, used-rest}
 use Prim.Native.Nat.{_-_, _≤_, _<_}
-use lib.ListN.{length}
+use lib.ListN.{length, getD}
 use Rattle.share.specs.Shares.{sharingOf, grantOf, piece-found, extra-found}
-use Rattle.advance.specs.Next.{WithinAmounts, withEntries, afterGrant, advanced-places, grants-within}
+use Rattle.advance.specs.Next.{WithinAmounts, withEntries, unmoved, afterGrant, advanced-places, grants-within}
 use borrow.Author.Needs.{needs}
 use Rattle.advance.proofs.advance.Statement.{statement}
 use Rattle.advance.proofs.advance.Tie as tie
@@ -20,10 +20,10 @@ abbrev stepIn : Table → Entry → Entry
 stepIn t e = afterGrant (grantOf (sharingOf t) (t .entries) e) e
 
 abbrev Inv-loop : tie.InvT-loop
-Inv-loop used t s next₀ i₀ next i = (i ≤ used) × (next ≡ withEntries t (mapped (stepIn t) i (t .entries)))
+Inv-loop used s t i₀ next i = (i ≤ used) × (next ≡ withEntries t (mapped (stepIn t) i (t .entries)))
 
 abbrev μ-loop : tie.MeasureT-loop
-μ-loop used t s next₀ i₀ next i = used - i
+μ-loop used s t i₀ next i = used - i
 
 loop-holds : tie.Need-loop-holds Inv-loop μ-loop
 loop-holds c = (omega arith, refl)
@@ -34,30 +34,38 @@ mul-e c = search needs
 element-copy-out-e : tie.Need-element-copy-out-e Inv-loop μ-loop
 element-copy-out-e c = search needs
 
-mul-t13 : tie.Need-mul-t13 Inv-loop μ-loop
-mul-t13 c = search needs
+mul-t11 : tie.Need-mul-t11 Inv-loop μ-loop
+mul-t11 c = search needs
 
-element-copy-out-t19 : tie.Need-element-copy-out-t19 Inv-loop μ-loop
-element-copy-out-t19 c = search needs
+element-copy-out-t17 : tie.Need-element-copy-out-t17 Inv-loop μ-loop
+element-copy-out-t17 c = search needs
 
-mul-t21 : tie.Need-mul-t21 Inv-loop μ-loop
-mul-t21 c = search needs
+mul-t19 : tie.Need-mul-t19 Inv-loop μ-loop
+mul-t19 c = search needs
 
-element-copy-out-t24 : tie.Need-element-copy-out-t24 Inv-loop μ-loop
-element-copy-out-t24 c = search needs
+element-copy-out-t22 : tie.Need-element-copy-out-t22 Inv-loop μ-loop
+element-copy-out-t22 c = search needs
 
-within : (c : tie.After-e Inv-loop μ-loop) → c .before .before .loop .i < length (c .before .before .before .args .t1 .entries)
+within : (c : tie.After-e Inv-loop μ-loop) → c .before .before .loop .i < length (c .before .before .before .args .t .entries)
 within c =
     let s = c .before .before .before in
-    used-inside (s .args .t1) (s .good .0) (s .pre .0 .1) (c .before .loop-test .taken)
+    used-inside (s .args .t) (s .good .0) (s .pre .0 .1) (c .before .loop-test .taken)
+
+-- its entry is still that of the table
+here : (c : tie.After-e Inv-loop μ-loop) → (let l = c .before .before in
+    getD (l .loop .next .entries) (l .loop .i) freeEntry ≡ getD (l .before .args .t .entries) (l .loop .i) freeEntry)
+here c =
+    let l = c .before .before in
+    let t = l .before .args .t in
+    unmoved t (stepIn t) (l .loop .inv .1) (within c)
 
 after-grant-requires : tie.Need-after-grant-requires Inv-loop μ-loop
 after-grant-requires c κs =
     let l = c .before .before .before .before in
     let s = l .before in
-    let t = s .args .t1 in
+    let t = s .args .t in
     let h = within (c .before .before) in
-    rw (piece-found t (s .pre .1) (l .loop .i) h, extra-found t (s .pre .1) (l .loop .i) h)
+    rw (here (c .before .before), piece-found t (s .pre .1) (l .loop .i) h, extra-found t (s .pre .1) (l .loop .i) h)
     (all-at (λ e. WithinAmounts (grantOf (sharingOf t) (t .entries) e) e) (t .entries) freeEntry
     (grants-within t (s .pre .0 .0) (sharingOf t)) _ h)
 
@@ -77,10 +85,16 @@ loop-again : tie.Need-loop-again Inv-loop μ-loop
 loop-again c =
     let l = c .before .before .before .before .before in
     let s = l .before in
-    let t = s .args .t1 in
+    let t = s .args .t in
     let h = within (c .before .before .before) in (
       omega arith,
-      rw (c .after-grant .ensures, piece-found t (s .pre .1) (l .loop .i) h, extra-found t (s .pre .1) (l .loop .i) h, l .loop .inv .1)
+      rw (
+        c .after-grant .ensures,
+        here (c .before .before .before),
+        piece-found t (s .pre .1) (l .loop .i) h,
+        extra-found t (s .pre .1) (l .loop .i) h,
+        l .loop .inv .1,
+      )
           (ap (withEntries t) (mapped-more (stepIn t) (t .entries) _ freeEntry h)),
     )
 
@@ -88,7 +102,7 @@ returns : tie.Need-returns Inv-loop μ-loop
 returns c =
     let l = c .before in
     let s = l .before in
-    let t = s .args .t1 in
+    let t = s .args .t in
     l .loop .inv .1
     ∙ ap (withEntries t)
     (spare-mapped freeEntry (stepIn t) (after-free _ _) (l .loop .i) (t .entries)
@@ -104,10 +118,10 @@ advance-spec =
     loop-holds
     mul-e
     element-copy-out-e
-    mul-t13
-    element-copy-out-t19
-    mul-t21
-    element-copy-out-t24
+    mul-t11
+    element-copy-out-t17
+    mul-t19
+    element-copy-out-t22
     after-grant-requires
     mul-n
     element-set-from-n

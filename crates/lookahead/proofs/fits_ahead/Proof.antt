@@ -5,9 +5,10 @@ use Rattle.rules.specs.Calls.{heldOf}
 use Rattle.laws.specs.Places.{Tidy}
 use Rattle.ahead.specs.Moved.{lifeOf}
 use Rattle.share.specs.Queues.{Used, queued-spare}
-use Rattle.share.specs.Shares.{piecesIn, pieces-found}
+use Rattle.share.specs.Shares.{piecesIn, overfull-found, capacity-found, pieces-found}
 use Rattle.lookahead.specs.Turn.{ahead, none-left, stops-even, stops-full, there, stops-late, next-less, next-tidy, next-same}
 use borrow.Author.Needs.{needs}
+use borrow.Author.Tests.{lt-ltb, le-ltb}
 use Rattle.lookahead.proofs.fits_ahead.Statement.{statement}
 use Rattle.lookahead.proofs.fits_ahead.Tie as tie
 
@@ -32,42 +33,62 @@ returns c =
     let l = c .before .before .before .before .loop in
     stops-even (l .now) (l .inv .0) (c .before .fits-evenly .ensures) (c .if2 .taken) (l .inv .1)
 
-overfull-requires : tie.Need-overfull-requires Inv-loop μ-loop
-overfull-requires c κs = search needs
+queue-of-requires : tie.Need-queue-of-requires Inv-loop μ-loop
+queue-of-requires c κs = search needs
+
+cast-if3 : tie.Need-cast-if3 Inv-loop μ-loop
+cast-if3 c = search needs
+
+-- the queue of the table at hand, and where that was found to hold something
+abbrev queue : tie.After-struct-known2 Inv-loop μ-loop → tie.After-queue-of Inv-loop μ-loop
+queue c = c .before .before .before
+
+abbrev some : tie.After-queue-of Inv-loop μ-loop → tie.Then1 Inv-loop μ-loop
+some k = k .before .before .before
 
 returns-2 : tie.Need-returns-2 Inv-loop μ-loop
 returns-2 c =
-    let h = c .before .before .before .before in
+    let k = queue (c .before) in
+    let h = some k in
     let l = h .before .before .loop in
-    let found = h .before .any-held .ensures in
-    stops-full (l .now) found (h .if1 .taken) (l .inv .0) (c .before .overfull .ensures) (c .if3 .taken) (l .inv .1)
+    let full = overfull-found (l .now) (l .inv .0) (k .queue-of .ensures) in
+    stops-full (l .now) (h .before .any-held .ensures) (h .if1 .taken) (l .inv .0) full (lt-ltb _ _ (c .if3 .taken)) (l .inv .1)
 
-capacity-requires : tie.Need-capacity-requires Inv-loop μ-loop
-capacity-requires c κs = search needs
+left-of-requires : tie.Need-left-of-requires Inv-loop μ-loop
+left-of-requires c κs = search needs
+
+capacious : (c : tie.After-left-of Inv-loop μ-loop) → (let t = some (queue (c .before .before)) .before .before .loop .now in
+    c .left-of .result .0 ≡ capacity (t .interval .0) (heldOf t))
+capacious c =
+    let k = queue (c .before .before) in
+    let l = some k .before .before .loop in
+    capacity-found (l .now) (l .inv .0) (k .queue-of .ensures) (c .left-of .ensures)
 
 leapt-requires : tie.Need-leapt-requires Inv-loop μ-loop
-leapt-requires c κs = search needs
+leapt-requires c κs =
+    let k = queue (c .before .before) in
+    ((some k .before .before .loop .inv .0, k .queue-of .ensures), capacious c)
 
 -- the table that the leap leaves, and its pieces
 arrived : (c : tie.After-leapt Inv-loop μ-loop) → (let u = c .leapt .result in
-    Tidy u × (c .before .capacity .result .0 ≡ capacity (u .interval .0) (heldOf u)))
+    Tidy u × (c .before .left-of .result .0 ≡ capacity (u .interval .0) (heldOf u)))
 arrived c =
-    let h = c .before .before .before .before .before .before in
+    let h = some (queue (c .before .before .before)) in
     let l = h .before .before .loop in
-    there (l .now) (h .before .any-held .ensures) (h .if1 .taken) (l .inv .0) (c .leapt .ensures) (c .before .capacity .ensures)
+    there (l .now) (h .before .any-held .ensures) (h .if1 .taken) (l .inv .0) (c .leapt .ensures) (capacious (c .before))
 
 shared : (c : tie.After-pieces Inv-loop μ-loop) → (let u = c .before .before .leapt .result in
-    (Tidy u × Used (c .before .queue-of .result .used) u) × (c .pieces .result ≡ piecesIn u))
+    (Tidy u × Used (c .before .queue-of2 .result .used) u) × (c .pieces .result ≡ piecesIn u))
 shared c =
     let a = arrived (c .before .before) in
-    let q = c .before .queue-of .ensures in
+    let q = c .before .queue-of2 .ensures in
     ((a .0, q .used), pieces-found _ (a .0) q (a .1) (c .pieces .ensures))
 
-queue-of-requires : tie.Need-queue-of-requires Inv-loop μ-loop
-queue-of-requires c κs = arrived c .0
+queue-of-requires-2 : tie.Need-queue-of-requires-2 Inv-loop μ-loop
+queue-of-requires-2 c κs = arrived c .0
 
 pieces-requires : tie.Need-pieces-requires Inv-loop μ-loop
-pieces-requires c κs = queued-spare (c .queue-of .ensures)
+pieces-requires c κs = queued-spare (c .queue-of2 .ensures)
 
 misses-requires : tie.Need-misses-requires Inv-loop μ-loop
 misses-requires c κs = shared c
@@ -76,10 +97,12 @@ returns-3 : tie.Need-returns-3 Inv-loop μ-loop
 returns-3 c =
     let a = c .before .before .before .before in
     let o = a .before .before in
-    let h = o .before .before .before .before in
+    let k = queue (o .before) in
+    let h = some k in
     let l = h .before .before .loop in
-    stops-late (l .now) (h .before .any-held .ensures) (h .if1 .taken) (l .inv .0) (a .leapt .ensures) (o .before .overfull .ensures)
-    (o .if3 .left) (c .before .misses .ensures) (c .if4 .taken) (l .inv .1)
+    let full = overfull-found (l .now) (l .inv .0) (k .queue-of .ensures) in
+    stops-late (l .now) (h .before .any-held .ensures) (h .if1 .taken) (l .inv .0) (a .leapt .ensures) full (le-ltb _ _ (o .if3 .left))
+    (c .before .misses .ensures) (c .if4 .taken) (l .inv .1)
 
 advance-without-extras-requires : tie.Need-advance-without-extras-requires Inv-loop μ-loop
 advance-without-extras-requires c κs = shared (c .before .before)
@@ -87,7 +110,7 @@ advance-without-extras-requires c κs = shared (c .before .before)
 loop-less : tie.Need-loop-less Inv-loop μ-loop
 loop-less c =
     let a = c .before .before .before .before .before in
-    let h = a .before .before .before .before .before .before in
+    let h = some (queue (a .before .before .before)) in
     let l = h .before .before .loop in
     next-less (l .now) (h .before .any-held .ensures) (h .if1 .taken) (l .inv .0) (a .leapt .ensures)
     (c .advance-without-extras .ensures)
@@ -96,12 +119,14 @@ loop-again : tie.Need-loop-again Inv-loop μ-loop
 loop-again c =
     let a = c .before .before .before .before .before in
     let o = a .before .before in
-    let h = o .before .before .before .before in
+    let k = queue (o .before) in
+    let h = some k in
     let l = h .before .before .loop in
     let e = c .advance-without-extras .ensures in
-    let found = h .before .any-held .ensures in (
+    let found = h .before .any-held .ensures in
+    let full = overfull-found (l .now) (l .inv .0) (k .queue-of .ensures) in (
       next-tidy (l .now) found (h .if1 .taken) (l .inv .0) (a .leapt .ensures) e,
-      next-same (l .now) found (h .if1 .taken) (l .inv .0) (a .leapt .ensures) (o .before .overfull .ensures) (o .if3 .left) e
+      next-same (l .now) found (h .if1 .taken) (l .inv .0) (a .leapt .ensures) full (le-ltb _ _ (o .if3 .left)) e
           (c .before .before .misses .ensures) (c .before .if4 .left) (l .inv .1),
     )
 
@@ -120,11 +145,12 @@ fits-ahead-spec =
     any-held-requires
     fits-evenly-requires
     returns
-    overfull-requires
-    returns-2
-    capacity-requires
-    leapt-requires
     queue-of-requires
+    cast-if3
+    returns-2
+    left-of-requires
+    leapt-requires
+    queue-of-requires-2
     pieces-requires
     misses-requires
     returns-3

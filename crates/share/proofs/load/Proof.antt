@@ -1,22 +1,17 @@
 use mathlib.Core.Path.{_≡_, _∙_}
-use mathlib.Core.Bool.{cond}
-use Prim.Native.Nat.{ℕ, _*_, _-_, _≤_, _<_}
+use Prim.Native.Nat.{_*_, _-_, _≤_, _<_}
 use native.Mathlib.Omega.{arith}
 use lib.ListN.{length}
 use borrow.Author.Needs.{needs}
 use Rattle.lists.specs.All.{all-at}
 use Rattle.lists.specs.Loops.{summed, summed-more, summed-all}
-use Rattle.model.specs.Entries.{isKind}
-use Rattle.model.specs.declared.Entry.{Entry}
 use Rattle.rules.specs.Share.{load}
 use Rattle.laws.specs.Places.{load-places}
 use Rattle.laws.specs.Closed.{mostSlots, load-most}
+use Rattle.share.specs.Queues.{loadOf}
 use Rattle.share.proofs.Known.{inside, past}
 use Rattle.share.proofs.load.Statement.{statement}
 use Rattle.share.proofs.load.Tie as tie
-
-abbrev loadOf : Entry → ℕ
-loadOf e = cond (isKind 1 e) (e .parts * e .min .0) 0
 
 abbrev Inv-loop : tie.InvT-loop
 Inv-loop t all₀ i₀ all i = (i ≤ 32) × (all ≡ summed loadOf i (t .entries)) × (all ≤ mostSlots * i)

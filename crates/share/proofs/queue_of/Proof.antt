@@ -1,37 +1,44 @@
-use mathlib.Core.Path.{_≡_, refl}
-use mathlib.Core.List.{map}
-use Prim.Native.Nat.{_-_, _≤_}
+use mathlib.Core.Logic.{inl, inr}
+use Prim.Native.Nat.{_-_}
 use native.Mathlib.Omega.{arith}
-use Rattle.lists.specs.Spare.{begun}
-use Rattle.laws.specs.Ranks.{rank}
-use Rattle.share.specs.Queues.{owedTo}
-use Rattle.share.proofs.Known.{used-more, used-all}
 use borrow.Author.Needs.{needs}
+use Rattle.share.proofs.Making.{Making, making-none, load-small, making-more, making-same, making-all}
 use Rattle.share.proofs.queue_of.Statement.{statement}
 use Rattle.share.proofs.queue_of.Tie as tie
 
 abbrev Inv-loop : tie.InvT-loop
-Inv-loop t used ranks₀ owed₀ i₀ ranks owed i =
-    (i ≤ used)
-    × (ranks ≡ begun 0 32 i (map rank (t .entries)))
-    × (owed ≡ begun 0 32 i (map owedTo (t .entries)))
+Inv-loop t used₀ load₀ ranks₀ owed₀ i₀ used load ranks owed i = Making t i used load ranks owed
 
 abbrev μ-loop : tie.MeasureT-loop
-μ-loop t used ranks₀ owed₀ i₀ ranks owed i = used - i
-
-used-places-requires : tie.Need-used-places-requires Inv-loop μ-loop
-used-places-requires c κs = search needs
+μ-loop t used₀ load₀ ranks₀ owed₀ i₀ used load ranks owed i = 32 - i
 
 loop-holds : tie.Need-loop-holds Inv-loop μ-loop
-loop-holds c = (omega arith, refl, refl)
+loop-holds c = making-none (c .args .t1) (c .good .0) (c .pre)
 
 mul-e : tie.Need-mul-e Inv-loop μ-loop
 mul-e c = search needs
 
 element-copy-out-e : tie.Need-element-copy-out-e Inv-loop μ-loop
-element-copy-out-e c =
-    let u = c .before .before .used-places .ensures .0 in
-    search needs
+element-copy-out-e c = search needs
+
+add-used : tie.Need-add-used Inv-loop μ-loop
+add-used c = search needs
+
+load-of-requires : tie.Need-load-of-requires Inv-loop μ-loop
+load-of-requires c κs = search needs
+
+add-load : tie.Need-add-load Inv-loop μ-loop
+add-load c =
+    let l = c .before .before .before .before in
+    let s = l .before in
+    let m = l .loop .inv in
+    omega (
+      arith,
+      c .load-of .ensures,
+      load-small (s .args .t1) (s .good .0) (s .pre) m (c .before .before .before .loop-test .taken),
+      m .within,
+      m .small,
+    )
 
 rank-requires : tie.Need-rank-requires Inv-loop μ-loop
 rank-requires c κs = search needs
@@ -59,29 +66,20 @@ loop-less c = search needs
 
 loop-again : tie.Need-loop-again Inv-loop μ-loop
 loop-again c =
-    let l = c .before .before .before .before in
-    let u = l .before .used-places .ensures in
-    let s = l .before .before in
+    let l = c .before .before .before in
+    let s = l .before in
     let t = s .args .t1 in
-    let h = c .before .before .before .loop-test .taken in (
-      omega arith,
-      used-more t (s .good .0) u rank refl (l .loop .inv .1) h (c .before .rank .ensures),
-      used-more t (s .good .0) u owedTo refl (l .loop .inv .2) h (c .owed-of .ensures),
-    )
+    let h = c .before .before .loop-test .taken in
+    elim (c .if1 .came) [
+      | inl w ↦ rw (w .4, w .5, w .6, w .7)
+          (making-more t (s .good .0) (s .pre) (l .loop .inv) h (w .1 .ensures) (w .2 .ensures) (w .3 .ensures))
+      | inr w ↦ rw (w .1, w .2, w .3, w .4) (making-same t (s .good .0) (s .pre) (l .loop .inv) h (w .0 .left))
+    ]
 
 returns : tie.Need-returns Inv-loop μ-loop
 returns c =
-    let l = c .before in
-    let u = l .before .used-places .ensures in
-    let s = l .before .before in
-    let t = s .args .t1 in
-    let v = l .loop .inv in
-    let h = c .loop-test .left in
-    record {
-      used = u;
-      ranks = used-all t (s .good .0) u rank refl (v .1) (v .0) h;
-      owed = used-all t (s .good .0) u owedTo refl (v .2) (v .0) h;
-    }
+    let s = c .before .before in
+    making-all (s .args .t1) (s .good .0) (s .pre) (c .before .loop .inv) (c .loop-test .left)
 
 pub queue-of-spec : {M : Type 1} → statement M
 queue-of-spec =
@@ -89,10 +87,12 @@ queue-of-spec =
     (tie.spec
     Inv-loop
     μ-loop
-    used-places-requires
     loop-holds
     mul-e
     element-copy-out-e
+    add-used
+    load-of-requires
+    add-load
     rank-requires
     mul-ranks
     array-write-ranks

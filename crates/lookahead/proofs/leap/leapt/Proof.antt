@@ -13,8 +13,8 @@ returns c =
     let s = c .before .before in
     leapt-none (s .args .t) (c .before .quiet .ensures) (s .pre .1) (c .if1 .taken)
 
-mul-t6 : tie.Need-mul-t6
-mul-t6 c =
+mul-t7 : tie.Need-mul-t7
+mul-t7 c =
     let q = c .before .before in
     let s = q .before in
     rw (q .quiet .ensures) (record { fits = omega (arith, quiet-slots (s .args .capacity .0) (s .args .t .entries)) })
@@ -29,4 +29,4 @@ returns-2 c =
     c .skip .ensures ∙ leapt-some (s .args .t) (q .quiet .ensures) (s .pre .1)
 
 pub leapt-spec : {M : Type 1} → statement M
-leapt-spec = tie.close (tie.spec quiet-requires returns mul-t6 skip-requires returns-2)
+leapt-spec = tie.close (tie.spec quiet-requires returns mul-t7 skip-requires returns-2)
