@@ -7,12 +7,12 @@ ghost use Prim.Native.Nat.{_+_, _*_, _-_, _≤_, _<_, min};
 ghost use lib.Dec.{ltb};
 ghost use lib.ListN.{getD};
 ghost use Rattle.lists.specs.Spare.{Spare};
-ghost use Rattle.model.specs.Entries.{isKind, isPiece};
-ghost use Rattle.rules.specs.Share.{load, stepB, headroom, jobCount, weight, extra};
+ghost use Rattle.model.specs.Entries.{isPiece};
+ghost use Rattle.rules.specs.Share.{stepB, headroom, jobCount, weight, extra};
 ghost use Rattle.rules.specs.Slots.{jobLength};
 ghost use Rattle.rules.specs.Calls.{heldOf};
 ghost use Rattle.laws.specs.Places.{Tidy};
-ghost use Rattle.share.specs.Queues.{Used, owedTo, owedBelow, pieceOf, piecesOf, Queueing, Queued};
+ghost use Rattle.share.specs.Queues.{Used, loadOf, owedTo, owedBelow, pieceOf, piecesOf, Queueing, Queued};
 ghost use Rattle.share.specs.Shares.{piecesIn, roomsIn, sharesOf};
 use model::Entry;
 use model::Slots;
@@ -72,7 +72,7 @@ pub fn job_length(interval: Slots, e: Entry) -> Slots
 // ---- A. capacity
 // What a kind 1 stream takes of an interval: m times its minimum.
 pub fn load_of(e: Entry) -> u64
-    ensures { λ r. ⌜ r ≡ cond (isKind 1 e) (e .parts * e .min .0) 0 ⌝ }
+    ensures { λ r. ⌜ r ≡ loadOf e ⌝ }
 {
     let kind = e.kind;
     if kind != 1 {
@@ -81,18 +81,6 @@ pub fn load_of(e: Entry) -> u64
     let parts = e.parts as u64;
     let least = e.min.0 as u64;
     parts * least
-}
-
-pub fn load(t: Table) -> u64
-    requires { ⌜ Tidy t ⌝ }
-    ensures { λ r. ⌜ r ≡ load (heldOf t) ⌝ }
-{
-    let mut all: u64 = 0;
-    for i in 0..32 {
-        let e = t.entries[i];
-        all = all + load_of(e);
-    }
-    all
 }
 
 // ---- B. kinds 2 and 3 take what they are owed

@@ -9,18 +9,15 @@ use lib.Dec.{leb}
 use borrow.Author.Tests.{ne-eqb, leb-true, le-leb, lt-leb}
 use Rattle.lists.specs.Lists.{sumOf}
 use Rattle.lists.specs.Tests.{same-test}
-use Rattle.model.specs.Entries.{isKind}
 use Rattle.model.specs.declared.Entry.{Entry}
 use Rattle.model.specs.declared.Table.{Table}
 use Rattle.rules.specs.Share.{load}
 use Rattle.rules.specs.Calls.{heldOf}
 use Rattle.laws.specs.Places.{Tidy, load-places}
 use Rattle.ahead.specs.Even.{evenly}
+use Rattle.share.specs.Queues.{loadOf}
 
--- kind 1: m times its minimum
-abbrev pub loadOf : Entry → ℕ
-loadOf e = cond (isKind 1 e) (e .parts * e .min .0) 0
-
+-- kind 1: m times its minimum; a piece: evenly up to its deadline
 unfoldable pub evenNeed : Entry → ℕ
 evenNeed e = loadOf e + evenly e
 

@@ -3,7 +3,8 @@
 ghost use mathlib.Core.Path.{_≡_};
 ghost use Prim.Native.Nat.{_+_, _≤_};
 ghost use Rattle.ahead.specs.Even.{upward, evenly};
-ghost use Rattle.survey.specs.Needed.{loadOf, evenNeed};
+ghost use Rattle.share.specs.Queues.{loadOf};
+ghost use Rattle.survey.specs.Needed.{evenNeed};
 use model::Entry;
 
 // a over b, rounded up.

@@ -11,7 +11,8 @@ ghost use Rattle.rules.specs.Calls.{heldOf, holds};
 ghost use Rattle.laws.specs.Closed.{mostSlots};
 ghost use Rattle.laws.specs.Places.{Tidy};
 ghost use Rattle.ahead.specs.Even.{evenly};
-ghost use Rattle.survey.specs.Needed.{loadOf, evenNeed};
+ghost use Rattle.share.specs.Queues.{loadOf};
+ghost use Rattle.survey.specs.Needed.{evenNeed};
 ghost use Rattle.survey.specs.Search.{isHeldAs, isFree};
 ghost use Rattle.survey.specs.Passes.{withEntry, mostNeed};
 

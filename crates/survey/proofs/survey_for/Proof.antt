@@ -6,7 +6,8 @@ use borrow.Author.Needs.{needs}
 use Rattle.lists.specs.All.{all-at}
 use Rattle.laws.specs.Closed.{mostSlots, load-most}
 use Rattle.share.proofs.Known.{inside, past}
-use Rattle.survey.specs.Needed.{loadOf, evenNeed}
+use Rattle.share.specs.Queues.{loadOf}
+use Rattle.survey.specs.Needed.{evenNeed}
 use Rattle.survey.specs.Search.{isFree}
 use Rattle.survey.specs.Passes.{Passed, passed-none, passed-more, passed-all, free-needs}
 use Rattle.survey.proofs.survey_for.Statement.{statement}
