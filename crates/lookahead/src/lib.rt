@@ -1,7 +1,5 @@
 // Looking ahead: steps A, B and F in turn until every life is used up. Document 01, "Looking ahead".
 ghost use mathlib.Core.Path.{_≡_};
-ghost use Rattle.lists.specs.Lists.{anyOf};
-ghost use Rattle.model.specs.Entries.{isHeld};
 ghost use Rattle.rules.specs.Ahead.{fitsAhead};
 ghost use Rattle.rules.specs.Calls.{heldOf};
 ghost use Rattle.laws.specs.Places.{Tidy};
@@ -10,32 +8,15 @@ pub mod leap; // leap.rt: the intervals in which nothing ends, served as one
 
 use model::Table;
 
-// Whether any place is held: a free one has stream 0.
-fn any_held(t: Table) -> bool
-    ensures { λ r. ⌜ r ≡ anyOf isHeld (t .entries) ⌝ }
-{
-    for i in 0..32 {
-        let e = t.entries[i];
-        let stream = e.stream;
-        if stream != 0 {
-            return true;
-        }
-    }
-    false
-}
-
-// Where an even share is enough for what is left, no more intervals are looked at. A leap leaves the load and so the capacity as they
-// are, but not the ranks and what is owed: after it the queue is made again.
-// Stops at the first miss, and when all lives are used up.
+// Where an even share is enough for what is left, no more intervals are looked at: so too where nothing is left. A leap leaves the load
+// and so the capacity as they are, but not the ranks and what is owed: after it the queue is made again.
+// Stops at the first miss.
 pub fn fits_ahead(t: Table) -> bool
     requires { ⌜ Tidy t ⌝ }
     ensures { λ r. ⌜ r ≡ fitsAhead (t .interval .0) (heldOf t) ⌝ }
 {
     let mut now = t;
-    while any_held(now) {
-        if survey::fits_evenly(now) {
-            return true;
-        }
+    while !survey::fits_evenly(now) {
         let q = share::queue_of(now);
         let interval = now.interval;
         if (interval.0 as u64) < q.load {

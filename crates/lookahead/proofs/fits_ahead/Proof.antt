@@ -6,9 +6,9 @@ use Rattle.laws.specs.Places.{Tidy}
 use Rattle.ahead.specs.Moved.{lifeOf}
 use Rattle.share.specs.Queues.{Used, queued-spare}
 use Rattle.share.specs.Shares.{piecesIn, overfull-found, capacity-found, pieces-found}
-use Rattle.lookahead.specs.Turn.{ahead, none-left, stops-even, stops-full, there, stops-late, next-less, next-tidy, next-same}
+use Rattle.lookahead.specs.Turn.{ahead, stops-even, stops-full, there, stops-late, next-less, next-tidy, next-same}
 use borrow.Author.Needs.{needs}
-use borrow.Author.Tests.{lt-ltb, le-ltb}
+use borrow.Author.Tests.{lt-ltb, le-ltb, not-true, not-false}
 use Rattle.lookahead.proofs.fits_ahead.Statement.{statement}
 use Rattle.lookahead.proofs.fits_ahead.Tie as tie
 
@@ -22,37 +22,29 @@ abbrev μ-loop : tie.MeasureT-loop
 loop-holds : tie.Need-loop-holds Inv-loop μ-loop
 loop-holds c = (c .pre, refl)
 
-any-held-requires : tie.Need-any-held-requires Inv-loop μ-loop
-any-held-requires c κs = search needs
-
 fits-evenly-requires : tie.Need-fits-evenly-requires Inv-loop μ-loop
 fits-evenly-requires c κs = search needs
-
-returns : tie.Need-returns Inv-loop μ-loop
-returns c =
-    let l = c .before .before .before .before .loop in
-    stops-even (l .now) (l .inv .0) (c .before .fits-evenly .ensures) (c .if2 .taken) (l .inv .1)
 
 queue-of-requires : tie.Need-queue-of-requires Inv-loop μ-loop
 queue-of-requires c κs = search needs
 
-cast-if3 : tie.Need-cast-if3 Inv-loop μ-loop
-cast-if3 c = search needs
+cast-if2 : tie.Need-cast-if2 Inv-loop μ-loop
+cast-if2 c = search needs
 
--- the queue of the table at hand, and where that was found to hold something
+-- the queue of the table at hand, and where an even share of that was found not to be enough
 abbrev queue : tie.After-struct-known2 Inv-loop μ-loop → tie.After-queue-of Inv-loop μ-loop
 queue c = c .before .before .before
 
 abbrev some : tie.After-queue-of Inv-loop μ-loop → tie.Then1 Inv-loop μ-loop
-some k = k .before .before .before
+some k = k .before
 
-returns-2 : tie.Need-returns-2 Inv-loop μ-loop
-returns-2 c =
+returns : tie.Need-returns Inv-loop μ-loop
+returns c =
     let k = queue (c .before) in
     let h = some k in
     let l = h .before .before .loop in
     let full = overfull-found (l .now) (l .inv .0) (k .queue-of .ensures) in
-    stops-full (l .now) (h .before .any-held .ensures) (h .if1 .taken) (l .inv .0) full (lt-ltb _ _ (c .if3 .taken)) (l .inv .1)
+    stops-full (l .now) (h .before .fits-evenly .ensures) (not-true _ (h .if1 .taken)) (l .inv .0) full (lt-ltb _ _ (c .if2 .taken)) (l .inv .1)
 
 left-of-requires : tie.Need-left-of-requires Inv-loop μ-loop
 left-of-requires c κs = search needs
@@ -75,7 +67,7 @@ arrived : (c : tie.After-leapt Inv-loop μ-loop) → (let u = c .leapt .result i
 arrived c =
     let h = some (queue (c .before .before .before)) in
     let l = h .before .before .loop in
-    there (l .now) (h .before .any-held .ensures) (h .if1 .taken) (l .inv .0) (c .leapt .ensures) (capacious (c .before))
+    there (l .now) (h .before .fits-evenly .ensures) (not-true _ (h .if1 .taken)) (l .inv .0) (c .leapt .ensures) (capacious (c .before))
 
 shared : (c : tie.After-pieces Inv-loop μ-loop) → (let u = c .before .before .leapt .result in
     (Tidy u × Used (c .before .queue-of2 .result .used) u) × (c .pieces .result ≡ piecesIn u))
@@ -93,16 +85,16 @@ pieces-requires c κs = queued-spare (c .queue-of2 .ensures)
 misses-requires : tie.Need-misses-requires Inv-loop μ-loop
 misses-requires c κs = shared c
 
-returns-3 : tie.Need-returns-3 Inv-loop μ-loop
-returns-3 c =
+returns-2 : tie.Need-returns-2 Inv-loop μ-loop
+returns-2 c =
     let a = c .before .before .before .before in
     let o = a .before .before in
     let k = queue (o .before) in
     let h = some k in
     let l = h .before .before .loop in
     let full = overfull-found (l .now) (l .inv .0) (k .queue-of .ensures) in
-    stops-late (l .now) (h .before .any-held .ensures) (h .if1 .taken) (l .inv .0) (a .leapt .ensures) full (le-ltb _ _ (o .if3 .left))
-    (c .before .misses .ensures) (c .if4 .taken) (l .inv .1)
+    stops-late (l .now) (h .before .fits-evenly .ensures) (not-true _ (h .if1 .taken)) (l .inv .0) (a .leapt .ensures) full (le-ltb _ _ (o .if2 .left))
+    (c .before .misses .ensures) (c .if3 .taken) (l .inv .1)
 
 advance-without-extras-requires : tie.Need-advance-without-extras-requires Inv-loop μ-loop
 advance-without-extras-requires c κs = shared (c .before .before)
@@ -112,7 +104,7 @@ loop-less c =
     let a = c .before .before .before .before .before in
     let h = some (queue (a .before .before .before)) in
     let l = h .before .before .loop in
-    next-less (l .now) (h .before .any-held .ensures) (h .if1 .taken) (l .inv .0) (a .leapt .ensures)
+    next-less (l .now) (h .before .fits-evenly .ensures) (not-true _ (h .if1 .taken)) (l .inv .0) (a .leapt .ensures)
     (c .advance-without-extras .ensures)
 
 loop-again : tie.Need-loop-again Inv-loop μ-loop
@@ -123,17 +115,18 @@ loop-again c =
     let h = some k in
     let l = h .before .before .loop in
     let e = c .advance-without-extras .ensures in
-    let found = h .before .any-held .ensures in
+    let found = h .before .fits-evenly .ensures in
+    let short = not-true _ (h .if1 .taken) in
     let full = overfull-found (l .now) (l .inv .0) (k .queue-of .ensures) in (
-      next-tidy (l .now) found (h .if1 .taken) (l .inv .0) (a .leapt .ensures) e,
-      next-same (l .now) found (h .if1 .taken) (l .inv .0) (a .leapt .ensures) full (le-ltb _ _ (o .if3 .left)) e
-          (c .before .before .misses .ensures) (c .before .if4 .left) (l .inv .1),
+      next-tidy (l .now) found short (l .inv .0) (a .leapt .ensures) e,
+      next-same (l .now) found short (l .inv .0) (a .leapt .ensures) full (le-ltb _ _ (o .if2 .left)) e
+          (c .before .before .misses .ensures) (c .before .if3 .left) (l .inv .1),
     )
 
-returns-4 : tie.Need-returns-4 Inv-loop μ-loop
-returns-4 c =
+returns-3 : tie.Need-returns-3 Inv-loop μ-loop
+returns-3 c =
     let l = c .before .before .loop in
-    none-left (l .now) (c .before .any-held .ensures) (c .if1 .left) (l .inv .1)
+    stops-even (l .now) (l .inv .0) (c .before .fits-evenly .ensures) (not-false _ (c .if1 .left)) (l .inv .1)
 
 pub fits-ahead-spec : {M : Type 1} → statement M
 fits-ahead-spec =
@@ -142,19 +135,17 @@ fits-ahead-spec =
     Inv-loop
     μ-loop
     loop-holds
-    any-held-requires
     fits-evenly-requires
-    returns
     queue-of-requires
-    cast-if3
-    returns-2
+    cast-if2
+    returns
     left-of-requires
     leapt-requires
     queue-of-requires-2
     pieces-requires
     misses-requires
-    returns-3
+    returns-2
     advance-without-extras-requires
     loop-less
     loop-again
-    returns-4)
+    returns-3)
