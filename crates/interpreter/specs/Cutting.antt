@@ -1,5 +1,4 @@
--- One step of the program: up to the end of the row in the chunk at hand, and that row's answer; or through the whole chunk where the
--- row goes on after it. Assumes nothing.
+-- What one row asks for: the row that ends in the chunk at hand, and at the end of the input the last row. Assumes nothing.
 use Prim.Native.Nat.{ℕ}
 use mathlib.Core.Bool.{cond}
 use mathlib.Core.List.{List, []}
@@ -13,7 +12,7 @@ use Rattle.commands.specs.Commands.{commandOf}
 use Rattle.commands.specs.declared.Command.{Command}
 use Rattle.commands.specs.declared.Command.the-variants.{OtherForm}
 use Rattle.interpreter.specs.declared.Shelf.{Shelf}
-use Rattle.interpreter.specs.Meaning.{firstState, stateAfter, planAfter, rowsFor}
+use Rattle.interpreter.specs.Meaning.{firstState, planAfter, rowsFor}
 
 unfoldable pub firstShelf : Shelf
 firstShelf = record { reader = atStart; state = firstState }
@@ -27,18 +26,6 @@ cutOf s chunk = cutFrom 0 (s .reader) chunk
 
 abbrev pub commandAt : Shelf → List ℕ → Command
 commandAt s chunk = commandIn (cutOf s chunk .reader .line)
-
-unfoldable pub stepShelf : Shelf → List ℕ → Shelf
-stepShelf s chunk =
-    cond (cutOf s chunk .ended)
-    (record { reader = atStart; state = stateAfter (s .state) (commandAt s chunk) })
-    (record { reader = cutOf s chunk .reader; state = s .state })
-
-unfoldable pub stepRows : Shelf → List ℕ → List ℕ
-stepRows s chunk = cond (cutOf s chunk .ended) (rowsFor (s .state) (commandAt s chunk)) []
-
-unfoldable pub stepPlan : Shelf → List ℕ → List ℕ → List ℕ
-stepPlan s chunk ws = cond (cutOf s chunk .ended) (planAfter (s .state) (commandAt s chunk) ws) ws
 
 -- at the end of the input: the last row, where it has a byte
 unfoldable pub lastRows : Shelf → List ℕ

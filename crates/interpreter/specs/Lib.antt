@@ -5,3 +5,4 @@ pub mod Beacons
 pub mod Ready
 pub mod Sizes
 pub mod Whole
+pub mod Parts

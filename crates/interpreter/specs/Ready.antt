@@ -17,11 +17,10 @@ use Rattle.ahead.specs.Formed.{opened-formed, offered-formed, withdrawn-formed,
 use Rattle.commands.specs.declared.Command.{Command}
 use Rattle.commands.specs.declared.Command.the-variants.{Open, Offer, Withdraw, Beacon as Beacon-row, OtherForm}
 use Rattle.interpreter.specs.declared.State.{State}
-use Rattle.interpreter.specs.declared.Shelf.{Shelf}
 use Rattle.interpreter.specs.Meaning.{firstState, withTable, stateAfter}
 use Rattle.interpreter.specs.Room.{planWords, Ready}
 use Rattle.interpreter.specs.Beacons.{planned}
-use Rattle.interpreter.specs.Cutting.{firstShelf, cutOf, commandAt, stepShelf}
+use Rattle.interpreter.specs.Cutting.{firstShelf}
 
 either-ready : (b : Bool) {s u : State} → (b ≡ true → Ready s) → Ready u → Ready (cond b s u)
 either-ready true f g = f refl
@@ -48,11 +47,3 @@ ready-after s OtherForm r = r
 pub ready-first : Ready (firstShelf .state)
 unfolding firstShelf firstState
 ready-first e = absurd (clash true refl (sym e))
-
-pub ready-step : (s : Shelf) (chunk : List ℕ) → Ready (s .state) → Ready (stepShelf s chunk .state)
-unfolding stepShelf
-ready-step s chunk r =
-    ⊎-elim
-    (λ e. rw e (ready-after (s .state) (commandAt s chunk) r))
-    (λ e. rw e r)
-    (either (cutOf s chunk .ended))

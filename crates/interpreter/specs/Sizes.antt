@@ -1,13 +1,13 @@
--- How much a step takes and prints: some bytes of a chunk that has one, and rows that fit into the memory of one answer. Assumes nothing.
-use mathlib.Core.Path.{_≡_, sym, ap, _∙_}
+-- How much a cut takes and an answer prints: some bytes of a chunk that has one, and rows that fit into the memory of one answer.
+-- Assumes nothing.
+use mathlib.Core.Path.{_≡_, ap}
 use mathlib.Core.Logic.{⊎-elim}
-use mathlib.Core.Bool.{Bool, true, false, cond}
-use mathlib.Core.List.{List, [], _∷_, _++_}
-use Prim.Native.Nat.{ℕ, _-_, _≤_, _<_}
+use mathlib.Core.Bool.{true, false}
+use mathlib.Core.List.{List, [], _++_}
+use Prim.Native.Nat.{ℕ, _≤_, _<_}
 use native.Mathlib.Omega.{arith}
 use lib.Dec.{eqb}
-use lib.ListN.{length, take, drop, length-append, length-drop}
-use lib.Seq.{take-all}
+use lib.ListN.{length, length-append}
 use Rattle.lists.specs.Tests.{either}
 use Rattle.rules.specs.Calls.{openAnswer, offerAnswer, heldAnswer, wordsOf, planOf}
 use Rattle.interval.specs.Plan.{plan-right}
@@ -22,10 +22,10 @@ use Rattle.interpreter.specs.declared.Shelf.{Shelf}
 use Rattle.interpreter.specs.Meaning.{answerWith, rowVerb, planRows, rowsFor}
 use Rattle.interpreter.specs.Room.{answerMost, Ready}
 use Rattle.interpreter.specs.Beacons.{rows-of-words}
-use Rattle.interpreter.specs.Cutting.{commandIn, cutOf, commandAt, stepRows, lastRows}
+use Rattle.interpreter.specs.Cutting.{commandIn, cutOf, lastRows}
 
-pub step-taken : (s : Shelf) (chunk : List ℕ) → (cutOf s chunk .taken ≤ length chunk) × (0 < length chunk → 0 < cutOf s chunk .taken)
-step-taken s chunk =
+pub cut-taken : (s : Shelf) (chunk : List ℕ) → (cutOf s chunk .taken ≤ length chunk) × (0 < length chunk → 0 < cutOf s chunk .taken)
+cut-taken s chunk =
     ⊎-elim
     (λ e. let x = row-ended 0 (s .reader) chunk e in
     let t = x .taken in let i = x .inside in let p = x .some in (omega arith, λ _. omega arith))
@@ -46,7 +46,7 @@ plan-most s r = ⊎-elim held none (either (s .ready))
     none : s .ready ≡ false → length (planRows s) ≤ 52224
     none e = rw e (omega arith)
 
-rows-most : (s : State) (c : Command) → Ready s → length (rowsFor s c) ≤ answerMost
+pub rows-most : (s : State) (c : Command) → Ready s → length (rowsFor s c) ≤ answerMost
 unfolding rowsFor
 rows-most s (Open u) r = let h = plain-row-most openVerb (openAnswer u) in omega arith
 rows-most s (Offer q) r = let h = stream-row-most offerVerb (answerWith s (offerAnswer (s .table) q)) (q .stream) in omega arith
@@ -57,14 +57,6 @@ rows-most s Beacon r =
     simp length-append (omega arith)
 rows-most s OtherForm r = let h = plain-row-most rowVerb 50 in omega arith
 
-pub step-most : (s : Shelf) (chunk : List ℕ) → Ready (s .state) → length (stepRows s chunk) ≤ answerMost
-unfolding stepRows
-step-most s chunk r =
-    ⊎-elim
-    (λ e. rw e (rows-most (s .state) (commandAt s chunk) r))
-    (λ e. rw e (omega arith))
-    (either (cutOf s chunk .ended))
-
 pub last-most : (s : Shelf) → Ready (s .state) → length (lastRows s) ≤ answerMost
 unfolding lastRows
 last-most s r =
@@ -72,15 +64,3 @@ last-most s r =
     (λ e. rw e (omega arith))
     (λ e. rw e (rows-most (s .state) (commandIn (unheld (s .reader))) r))
     (either (eqb (unheld (s .reader) .len) 0))
-
--- a step on what is left of a chunk
-abbrev leftOf : (chunk : List ℕ) (left : ℕ) → List ℕ
-leftOf chunk left = take (length chunk - (length chunk - left)) (drop (length chunk - left) chunk)
-
-pub left-taken : (chunk : List ℕ) (left : ℕ) {taken : ℕ} → left ≤ length chunk → 0 < left
-    → (taken ≤ length (leftOf chunk left)) × (0 < length (leftOf chunk left) → 0 < taken) → (taken ≤ left) × (0 < taken)
-left-taken chunk left h some (most, on) =
-    let from = length chunk - left in
-    let kept = length-drop from chunk in
-    let all = ap length (take-all (length chunk - from) (drop from chunk) (omega arith)) ∙ kept in
-    (omega arith, on (omega arith))

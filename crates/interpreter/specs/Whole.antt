@@ -1,41 +1,46 @@
--- The whole output, however the input is cut into chunks: the header, and the rows for each row of the input. The program serves a chunk
--- by steps (`step-rows`, `step-after`), one chunk after the other, and then the last row (`whole-output`). Assumes nothing.
-use mathlib.Core.Path.{_≡_, refl, sym, ap, _∙_}
+-- The whole output, however the input is cut into chunks: the header, and the rows for each row of the input. The program serves one
+-- chunk after the other, each in one part or more (`rows-append`), and then the last row (`whole-output`). Assumes nothing.
+use mathlib.Core.Path.{_≡_, refl, sym, ap, ap₂, _∙_}
 use mathlib.Core.Logic.{⊎-elim}
 use mathlib.Core.Bool.{true, false, cond}
 use mathlib.Core.List.{List, [], _∷_, _++_, map, map-append, append-nil, append-assoc}
-use Prim.Native.Nat.{ℕ, _+_}
-use native.Mathlib.Omega.{arith}
-use borrow.Author.Tests.{leb-true, leb-false, le-leb, lt-leb}
+use Prim.Native.Nat.{ℕ}
+use borrow.Author.Tests.{leb-true, leb-false}
 use lib.Dec.{leb, eqb}
-use lib.ListN.{length, drop, drop-of-length-le}
+use lib.ListN.{length}
 use Rattle.lists.specs.Lists.{concatMap}
 use Rattle.lists.specs.Tests.{either}
 use Rattle.text.specs.Rows.{rowMost, rowsOf}
-use Rattle.rows.specs.Lines.{lineOf, atStart, unheld, linesIn, readerAfter, lastLines}
+use Rattle.rows.specs.Lines.{lineOf, unheld, linesIn, readerAfter, lastLines}
 use Rattle.rows.specs.Chunks.{lines-append, after-append, rows-found}
 use Rattle.rows.specs.Kept.{textOf, kept-whole, kept-long}
-use Rattle.rows.specs.Cuts.{Ended, row-ended, row-open}
 use Rattle.commands.specs.Commands.{commandOf}
 use Rattle.commands.specs.declared.Command.{Command}
 use Rattle.commands.specs.declared.Command.the-variants.{OtherForm}
 use Rattle.printing.specs.Printed.{headerRow}
 use Rattle.interpreter.specs.declared.State.{State}
 use Rattle.interpreter.specs.declared.Shelf.{Shelf}
-use Rattle.interpreter.specs.Meaning.{firstState, stateAfter, rowsFor, printed, outputOf}
-use Rattle.interpreter.specs.Cutting.{firstShelf, commandIn, cutOf, stepShelf, stepRows, lastRows}
+use Rattle.interpreter.specs.Meaning.{firstState, stateAfter, planAfter, rowsFor, printed, outputOf}
+use Rattle.interpreter.specs.Cutting.{firstShelf, commandIn, lastRows}
 
 -- ---- a chunk
 unfoldable pub stateRun : State → List Command → State
 stateRun s [] = s
 stateRun s (c ∷ cs) = stateRun (stateAfter s c) cs
 
+unfoldable pub planRun : State → List Command → List ℕ → List ℕ
+planRun s [] ws = ws
+planRun s (c ∷ cs) ws = planRun (stateAfter s c) cs (planAfter s c ws)
+
 abbrev pub commandsIn : Shelf → List ℕ → List Command
 commandsIn s chunk = map commandIn (linesIn (s .reader) chunk)
 
--- the rows that a chunk gives, and the shelf after it
+-- the rows that a chunk gives, the plan's memory after it, and the shelf
 unfoldable pub chunkRows : Shelf → List ℕ → List ℕ
 chunkRows s chunk = printed (s .state) (commandsIn s chunk)
+
+unfoldable pub chunkPlan : Shelf → List ℕ → List ℕ → List ℕ
+chunkPlan s chunk ws = planRun (s .state) (commandsIn s chunk) ws
 
 unfoldable pub shelfAfter : Shelf → List ℕ → Shelf
 shelfAfter s chunk = record { reader = readerAfter (s .reader) chunk; state = stateRun (s .state) (commandsIn s chunk) }
@@ -45,46 +50,43 @@ unfoldable pub served : Shelf → List (List ℕ) → List ℕ
 served s [] = lastRows s
 served s (c ∷ cs) = chunkRows s c ++ served (shelfAfter s c) cs
 
--- ---- a chunk is served by steps
-abbrev rest : Shelf → List ℕ → List ℕ
-rest s chunk = drop (cutOf s chunk .taken) chunk
-
-taken-all : (s : Shelf) (chunk : List ℕ) → cutOf s chunk .ended ≡ false → rest s chunk ≡ []
-taken-all s chunk e = let h = row-open 0 (s .reader) chunk e .0 in drop-of-length-le chunk {i = cutOf s chunk .taken} (omega arith)
-
-pub step-rows : (s : Shelf) (chunk : List ℕ) → chunkRows s chunk ≡ stepRows s chunk ++ chunkRows (stepShelf s chunk) (rest s chunk)
-unfolding chunkRows stepRows stepShelf printed linesIn
-step-rows s chunk = ⊎-elim ended on (either (cutOf s chunk .ended))
-  where
-    ended : cutOf s chunk .ended ≡ true → chunkRows s chunk ≡ stepRows s chunk ++ chunkRows (stepShelf s chunk) (rest s chunk)
-    ended e =
-        let x = row-ended 0 (s .reader) chunk e in
-        let k : x .k ≡ cutOf s chunk .taken = (let h = x .taken in omega arith) in
-        rw (e, x .lines, k) refl
-
-    on : cutOf s chunk .ended ≡ false → chunkRows s chunk ≡ stepRows s chunk ++ chunkRows (stepShelf s chunk) (rest s chunk)
-    on e = rw (e, taken-all s chunk e, row-open 0 (s .reader) chunk e .1 .0) refl
-
-pub step-after : (s : Shelf) (chunk : List ℕ) → shelfAfter s chunk ≡ shelfAfter (stepShelf s chunk) (rest s chunk)
-unfolding shelfAfter stepShelf stateRun linesIn readerAfter
-step-after s chunk = ⊎-elim ended on (either (cutOf s chunk .ended))
-  where
-    ended : cutOf s chunk .ended ≡ true → shelfAfter s chunk ≡ shelfAfter (stepShelf s chunk) (rest s chunk)
-    ended e =
-        let x = row-ended 0 (s .reader) chunk e in
-        let k : x .k ≡ cutOf s chunk .taken = (let h = x .taken in omega arith) in
-        rw (e, x .lines, x .after, k) refl
-
-    on : cutOf s chunk .ended ≡ false → shelfAfter s chunk ≡ shelfAfter (stepShelf s chunk) (rest s chunk)
-    on e = let x = row-open 0 (s .reader) chunk e in rw (e, taken-all s chunk e, x .1 .0, x .1 .1) refl
-
--- ---- the chunks are the input
+-- ---- two chunks are as good as one
 printed-append : (s : State) (cs ds : List Command) → printed s (cs ++ ds) ≡ printed s cs ++ printed (stateRun s cs) ds
 unfolding printed stateRun
 printed-append s [] ds = refl
 printed-append s (c ∷ cs) ds =
     ap (λ r. rowsFor s c ++ r) (printed-append (stateAfter s c) cs ds) ∙ sym (append-assoc (rowsFor s c) _ _)
 
+run-append : (s : State) (cs ds : List Command) → stateRun s (cs ++ ds) ≡ stateRun (stateRun s cs) ds
+unfolding stateRun
+run-append s [] ds = refl
+run-append s (c ∷ cs) ds = run-append (stateAfter s c) cs ds
+
+plan-append : (s : State) (cs ds : List Command) (ws : List ℕ) → planRun s (cs ++ ds) ws ≡ planRun (stateRun s cs) ds (planRun s cs ws)
+unfolding stateRun planRun
+plan-append s [] ds ws = refl
+plan-append s (c ∷ cs) ds ws = plan-append (stateAfter s c) cs ds (planAfter s c ws)
+
+commands-append : (s : Shelf) (xs ys : List ℕ) → commandsIn s (xs ++ ys) ≡ commandsIn s xs ++ commandsIn (shelfAfter s xs) ys
+unfolding shelfAfter
+commands-append s xs ys = ap (map commandIn) (lines-append (s .reader) xs ys) ∙ map-append commandIn (linesIn (s .reader) xs) _
+
+pub rows-append : (s : Shelf) (xs ys : List ℕ) → chunkRows s (xs ++ ys) ≡ chunkRows s xs ++ chunkRows (shelfAfter s xs) ys
+unfolding chunkRows shelfAfter
+rows-append s xs ys = ap (printed (s .state)) (commands-append s xs ys) ∙ printed-append (s .state) (commandsIn s xs) _
+
+pub after-both : (s : Shelf) (xs ys : List ℕ) → shelfAfter s (xs ++ ys) ≡ shelfAfter (shelfAfter s xs) ys
+unfolding shelfAfter
+after-both s xs ys =
+    ap₂ (λ r t. record { reader = r; state = t }) (after-append (s .reader) xs ys)
+    (ap (stateRun (s .state)) (commands-append s xs ys) ∙ run-append (s .state) (commandsIn s xs) _)
+
+pub plan-both : (s : Shelf) (xs ys ws : List ℕ) → chunkPlan s (xs ++ ys) ws ≡ chunkPlan (shelfAfter s xs) ys (chunkPlan s xs ws)
+unfolding chunkPlan shelfAfter
+plan-both s xs ys ws =
+    ap (λ cs. planRun (s .state) cs ws) (commands-append s xs ys) ∙ plan-append (s .state) (commandsIn s xs) _ ws
+
+-- ---- the chunks are the input
 last-printed : (s : Shelf) → lastRows s ≡ printed (s .state) (map commandIn (lastLines (s .reader)))
 unfolding lastRows lastLines printed
 last-printed s = ⊎-elim (λ e. rw e refl) (λ e. rw e (sym (append-nil _))) (either (eqb (unheld (s .reader) .len) 0))

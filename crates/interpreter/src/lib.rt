@@ -2,12 +2,14 @@
 // rows, and between two chunks of the input, is a struct by value.
 ghost use mathlib.Core.Path.{_≡_};
 ghost use Prim.Native.Nat.{_+_, _≤_};
-ghost use lib.ListN.{length};
+ghost use lib.ListN.{length, take};
 ghost use Rattle.commands.specs.declared.Command.the-variants.{Open, Offer, Withdraw, Beacon};
 ghost use Rattle.printing.specs.Printed.{written};
 ghost use Rattle.interpreter.specs.Meaning.{firstState, stateAfter, planAfter, rowsFor};
 ghost use Rattle.interpreter.specs.Room.{planWords, answerMost, Ready};
-ghost use Rattle.interpreter.specs.Cutting.{firstShelf, commandIn, cutOf, stepShelf, stepRows, stepPlan, lastRows, lastPlan};
+ghost use Rattle.interpreter.specs.Cutting.{firstShelf, commandIn, lastRows, lastPlan};
+ghost use Rattle.interpreter.specs.Whole.{chunkRows, chunkPlan, shelfAfter};
+ghost use Rattle.interpreter.specs.Parts.{servedTo};
 use commands::Command;
 use model::Request;
 use model::Table;
@@ -93,6 +95,10 @@ fn answer_withdraw(s: State, stream: u32, out: &mut [u8], at: usize) -> Answered
     let w = planner::withdraw(s.table, stream);
     let answer = w.answer;
     let number = planner::held_number(answer);
+    if number != 0 {
+        let next = printing::stream_row(out, at, b"withdraw", stream, number);
+        return Answered { state: s, at: next };
+    }
     let next = printing::stream_row(out, at, b"withdraw", stream, number);
     let table = w.table;
     let state = State { ready: true, table };
@@ -143,6 +149,25 @@ pub fn answer(s: State, c: Command, plan: &mut [u32], out: &mut [u8], at: usize)
     }
 }
 
+// The same where no row follows, so that no state is given back. A second caller of each of the four keeps the compiler from joining
+// them in one function that copies the state piece by piece.
+fn last_answer(s: State, c: Command, plan: &mut [u32], out: &mut [u8], at: usize) -> usize
+    requires { ⌜ Ready s ⌝ }
+    requires { ⌜ planWords ≤ length (now plan) ⌝ }
+    requires { ⌜ at + answerMost ≤ length (now out) ⌝ }
+    ensures { λ r. let bs = rowsFor s c in
+        ⌜ (r ≡ at + length bs)
+        × ((now (out .exit) ≡ written (now (out .entry)) at bs) × (now (plan .exit) ≡ planAfter s c (now (plan .entry)))) ⌝ }
+{
+    match c {
+        Command::Open(units) => answer_open(s, units, out, at).at,
+        Command::Offer(q) => answer_offer(s, q, out, at).at,
+        Command::Withdraw(stream) => answer_withdraw(s, stream, out, at).at,
+        Command::Beacon => answer_beacon(s, plan, out, at).at,
+        Command::OtherForm => printing::plain_row(out, at, b"row", 50),
+    }
+}
+
 // ---- rows of the input
 pub fn first_shelf() -> Shelf
     ensures is { λ r. ⌜ r ≡ firstShelf ⌝ }
@@ -169,36 +194,52 @@ fn command_in(line: Line) -> Command
     Command::OtherForm
 }
 
-// Up to the end of the row in this chunk, and the row's answer; or through the chunk, where the row goes on after it.
-pub fn serve(s: Shelf, chunk: &[u8], plan: &mut [u32], out: &mut [u8], at: usize) -> Served
+fn served_to(reader: Reader, state: State, taken: usize, at: usize) -> Served
+    ensures { λ r. ⌜ r ≡ servedTo reader state taken at ⌝ }
+{
+    let shelf = Shelf { reader, state };
+    Served { shelf, taken, at }
+}
+
+// Row after row, until the chunk is used up or another answer might not fit. The state stays in its place: only a call takes it.
+pub fn serve_rows(s: Shelf, chunk: &[u8], plan: &mut [u32], out: &mut [u8], at: usize) -> Served
     requires { ⌜ Ready (s .state) ⌝ }
     requires { ⌜ planWords ≤ length (now plan) ⌝ }
     requires { ⌜ at + answerMost ≤ length (now out) ⌝ }
-    ensures is { λ r. let bs = now (chunk .entry) in let rows = stepRows s bs in
-        ⌜ (r .shelf ≡ stepShelf s bs) × ((r .taken ≡ cutOf s bs .taken) × ((r .at ≡ at + length rows)
-        × ((now (out .exit) ≡ written (now (out .entry)) at rows) × (now (plan .exit) ≡ stepPlan s bs (now (plan .entry)))))) ⌝ }
+    ensures is { λ r. let p = take (r .taken) (now (chunk .entry)) in let rows = chunkRows s p in
+        ⌜ (r .shelf ≡ shelfAfter s p) × ((r .at ≡ at + length rows)
+        × ((now (out .exit) ≡ written (now (out .entry)) at rows) × (now (plan .exit) ≡ chunkPlan s p (now (plan .entry))))) ⌝ }
     ensures formed { λ r. ⌜ Ready (r .shelf .state) ⌝ }
+    ensures far { λ r. let n = length (now (chunk .entry)) in let room = length (now (out .entry)) in
+        ⌜ (r .taken ≤ n) × ((r .at ≤ room) × (r .at + answerMost ≤ room → r .taken ≡ n)) ⌝ }
 {
-    let c = rows::cut_row(s.reader, chunk);
-    let reader = c.reader;
-    let state = s.state;
-    if !c.ended {
-        let shelf = Shelf { reader, state };
-        return Served {
-            shelf,
-            taken: c.taken,
-            at,
-        };
+    let mut reader = s.reader;
+    let mut state = s.state;
+    let mut taken: usize = 0;
+    let mut next = at;
+    let last = out.len() - ANSWER_MOST;
+    while taken < chunk.len() {
+        if last < next {
+            return served_to(reader, state, taken, next);
+        }
+        let c = rows::cut_row(reader, &chunk[taken..]);
+        let r = c.reader;
+        taken += c.taken;
+        if !c.ended {
+            return served_to(r, state, taken, next);
+        }
+        reader = rows::at_start();
+        let command = command_in(r.line);
+        if let Command::OtherForm = command {
+            next = printing::plain_row(out, next, b"row", 50);
+            continue;
+        }
+        let a = answer(state, command, plan, out, next);
+        let after = a.state;
+        state = after;
+        next = a.at;
     }
-    let a = answer(state, command_in(reader.line), plan, out, at);
-    let reader = rows::at_start();
-    let state = a.state;
-    let shelf = Shelf { reader, state };
-    Served {
-        shelf,
-        taken: c.taken,
-        at: a.at,
-    }
+    served_to(reader, state, taken, next)
 }
 
 // At the end of the input: the answer to the last row, where that has a byte and no CR LF.
@@ -214,6 +255,5 @@ pub fn finish(s: Shelf, plan: &mut [u32], out: &mut [u8], at: usize) -> usize
     if line.len == 0 {
         return at;
     }
-    let a = answer(s.state, command_in(line), plan, out, at);
-    a.at
+    last_answer(s.state, command_in(line), plan, out, at)
 }

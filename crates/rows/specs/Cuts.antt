@@ -1,24 +1,24 @@
--- A cut of a chunk, against the rows that a reader finds in it: a cut that ends a row has taken the first of them, and the rest of the
--- chunk holds the others; a cut that ends none has taken the whole chunk. Assumes nothing.
+-- A cut of a chunk, against the rows that a reader finds: the bytes of a cut that ends a row hold that row alone, and the next one
+-- begins after them; a cut that ends none has taken the whole chunk. Assumes nothing.
 use mathlib.Core.Path.{_≡_, refl, sym, ap, _∙_}
 use mathlib.Core.Logic.{⊎-elim}
 use mathlib.Core.Bool.{true, false}
 use mathlib.Core.List.{List, [], _∷_}
 use Prim.Native.Nat.{ℕ, suc, _+_, _≤_, _<_}
 use native.Mathlib.Omega.{arith}
-use lib.ListN.{length, drop}
+use lib.ListN.{length, take}
 use Rattle.lists.specs.Tests.{either, clash}
 use Rattle.rows.specs.declared.Reader.{Reader}
 use Rattle.rows.specs.Lines.{atStart, endsRow, afterByte, cutFrom, linesIn, readerAfter}
 
--- of k bytes that the cut took after the first n
+-- of k bytes that the cut took after the first n: they hold one row, and a reader starts anew after them
 pub record Ended (n : ℕ) (r : Reader) (bs : List ℕ) : Type 0 where
   pub k : ℕ
   pub taken : cutFrom n r bs .taken ≡ n + k
   pub some : 0 < k
   pub inside : k ≤ length bs
-  pub lines : linesIn r bs ≡ cutFrom n r bs .reader .line ∷ linesIn atStart (drop k bs)
-  pub after : readerAfter r bs ≡ readerAfter atStart (drop k bs)
+  pub only : linesIn r (take k bs) ≡ cutFrom n r bs .reader .line ∷ []
+  pub anew : readerAfter r (take k bs) ≡ atStart
 
 pub row-ended : (n : ℕ) (r : Reader) (bs : List ℕ) → cutFrom n r bs .ended ≡ true → Ended n r bs
 unfolding cutFrom linesIn readerAfter
@@ -31,8 +31,8 @@ row-ended n r (b ∷ bs) e = ⊎-elim here (on (row-ended (suc n) (afterByte r b
       taken = rw t (omega arith);
       some = omega arith;
       inside = omega arith;
-      lines = rw t refl;
-      after = rw t refl;
+      only = rw t refl;
+      anew = rw t refl;
     }
 
     on : (cutFrom (suc n) (afterByte r b) bs .ended ≡ true → Ended (suc n) (afterByte r b) bs) → endsRow r b ≡ false → Ended n r (b ∷ bs)
@@ -43,8 +43,8 @@ row-ended n r (b ∷ bs) e = ⊎-elim here (on (row-ended (suc n) (afterByte r b
           taken = rw t (m .taken ∙ omega arith);
           some = omega arith;
           inside = let h = m .inside in omega arith;
-          lines = rw t (m .lines);
-          after = rw t (m .after);
+          only = rw t (m .only);
+          anew = rw t (m .anew);
         }
 
 -- a chunk through which the row goes on

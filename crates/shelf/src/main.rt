@@ -1,6 +1,6 @@
 // The program `shelf`: rows of calls on standard input, rows of answers and plans on standard output. Document 01, "Reading, lending,
 // printing". What it does with each byte is in crate interpreter; here are the reads and writes.
-ghost use Prim.Native.Nat.{_+_, _≤_, _<_};
+ghost use Prim.Native.Nat.{_≤_};
 ghost use lib.ListN.{length};
 ghost use Rattle.interpreter.specs.Room.{planWords, answerMost, Ready};
 use interpreter::Shelf;
@@ -21,44 +21,8 @@ fn put(out: &[u8], at: usize) -> bool
     false
 }
 
-// What one step took of a chunk, and the place of the next row.
-struct Part {
-    shelf: Shelf,
-    taken: usize,
-    at: usize,
-    going: bool,
-}
-
-// One step. The rows are written out where another answer might not fit behind them.
-fn serve_part(s: Shelf, chunk: &[u8], plan: &mut [u32], out: &mut [u8], at: usize) -> Part
-    requires { ⌜ Ready (s .state) ⌝ }
-    requires { ⌜ planWords ≤ length (now plan) ⌝ }
-    requires { ⌜ at + answerMost ≤ length (now out) ⌝ }
-    ensures { λ r. let n = length (now (chunk .entry)) in
-        ⌜ Ready (r .shelf .state) × ((r .at + answerMost ≤ length (now (out .entry))) × ((r .taken ≤ n) × (0 < n → 0 < r .taken))) ⌝ }
-{
-    let served = interpreter::serve(s, chunk, plan, out, at);
-    let shelf = served.shelf;
-    let taken = served.taken;
-    let next = served.at;
-    if interpreter::ANSWER_MOST <= out.len() - next {
-        return Part {
-            shelf,
-            taken,
-            at: next,
-            going: true,
-        };
-    }
-    let going = put(out, next);
-    Part {
-        shelf,
-        taken,
-        at: 0,
-        going,
-    }
-}
-
-// Serves a whole chunk. What is printed is written out at its end, so that no answer waits for the next chunk.
+// Serves a whole chunk, part after part. Each is written out before the next one and at the chunk's end, so that no answer waits for
+// the next chunk.
 fn serve_chunk(s: Shelf, chunk: &[u8], plan: &mut [u32], out: &mut [u8]) -> Flow
     requires { ⌜ Ready (s .state) ⌝ }
     requires { ⌜ planWords ≤ length (now plan) ⌝ }
@@ -66,24 +30,20 @@ fn serve_chunk(s: Shelf, chunk: &[u8], plan: &mut [u32], out: &mut [u8]) -> Flow
     ensures { λ r. ⌜ Ready (r .shelf .state) ⌝ }
 {
     let mut shelf = s;
-    let mut left = chunk.len();
-    let mut at: usize = 0;
-    while left > 0 {
-        let part = serve_part(shelf, &chunk[chunk.len() - left..], plan, out, at);
+    let mut taken: usize = 0;
+    while taken < chunk.len() {
+        let part = interpreter::serve_rows(shelf, &chunk[taken..], plan, out, 0);
         let next = part.shelf;
-        let taken = part.taken;
         shelf = next;
-        left -= taken;
-        at = part.at;
-        if !part.going {
+        taken += part.taken;
+        if !put(out, part.at) {
             return Flow {
                 shelf,
                 going: false,
             };
         }
     }
-    let going = put(out, at);
-    Flow { shelf, going }
+    Flow { shelf, going: true }
 }
 
 // One read. At the end of the input the last row may still want its answer.

@@ -25,8 +25,8 @@ returns c =
 command-in-requires : tie.Need-command-in-requires
 command-in-requires c κs = search needs
 
-answer-requires : tie.Need-answer-requires
-answer-requires c κs = search needs
+last-answer-requires : tie.Need-last-answer-requires
+last-answer-requires c κs = search needs
 
 same-length : tie.Need-same-length
 same-length c = search needs
@@ -44,8 +44,8 @@ returns-2 c =
     let u = r10 .unheld .ensures in
     let z = ne-eqb _ _ (λ q. r8 .if1 .left (ap (λ (l : Line). l .len) u ∙ q)) in
     let k = r7 .command-in .ensures ∙ ap commandIn u in
-    let a = r4 .answer .ensures in
-    rw (z, sym k) (a .1 .0, (a .1 .1 .0, a .1 .1 .1))
+    let a = r4 .last-answer .ensures in
+    rw (z, sym k) a
 
 pub finish-spec : {M : Type 1} → statement M
 finish-spec =
@@ -54,7 +54,7 @@ finish-spec =
     unheld-requires
     returns
     command-in-requires
-    answer-requires
+    last-answer-requires
     same-length
     same-length-2
     returns-2)
