@@ -1,8 +1,4 @@
-pub mod Meaning
-pub mod Room
 pub mod Cutting
-pub mod Beacons
-pub mod Ready
 pub mod Sizes
 pub mod Whole
 pub mod Parts

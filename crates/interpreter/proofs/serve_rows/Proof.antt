@@ -6,10 +6,10 @@ use lib.ListN.{length, take}
 use borrow.Author.Tests.{not-true, not-false}
 use borrow.Author.Needs.{needs}
 use Rattle.printing.specs.PrintedLaws.{plain-row-most}
-use Rattle.interpreter.specs.Room.{Ready}
-use Rattle.interpreter.specs.Ready.{ready-after}
-use Rattle.interpreter.specs.Sizes.{rows-most}
-use Rattle.interpreter.specs.Meaning.{rowVerb, stateAfter, planAfter, rowsFor}
+use Rattle.answers.specs.Room.{Ready}
+use Rattle.answers.specs.Ready.{ready-after}
+use Rattle.answers.specs.Sizes.{rows-most}
+use Rattle.answers.specs.Meaning.{rowVerb, stateAfter, planAfter, rowsFor}
 use Rattle.interpreter.specs.Parts.{Done, shelfOf, done-none, done-open, done-row, cut-some, cut-all}
 use Rattle.interpreter.proofs.serve_rows.Statement.{statement}
 use Rattle.interpreter.proofs.serve_rows.Tie as tie

@@ -1,8 +1,8 @@
 use mathlib.Core.Path.{refl}
-use Rattle.interpreter.specs.Meaning.{stateAfter, planAfter, rowsFor}
+use Rattle.answers.specs.Meaning.{stateAfter, planAfter, rowsFor}
 use borrow.Author.Needs.{needs}
-use Rattle.interpreter.proofs.answer.Statement.{statement}
-use Rattle.interpreter.proofs.answer.Tie as tie
+use Rattle.answers.proofs.answer.Statement.{statement}
+use Rattle.answers.proofs.answer.Tie as tie
 
 enum-known-c : tie.Need-enum-known-c
 enum-known-c c = search needs

@@ -6,11 +6,11 @@ use borrow.Author.Tests.{not-true, not-false}
 use Rattle.rules.specs.Calls.{heldAnswer, withdrawn}
 use Rattle.laws.specs.Refusals.{refused-withdrawal}
 use Rattle.commands.specs.declared.Command.the-variants.{Withdraw}
-use Rattle.interpreter.specs.declared.State.{State}
-use Rattle.interpreter.specs.Meaning.{withTable, stateAfter, rowsFor}
+use Rattle.answers.specs.declared.State.{State}
+use Rattle.answers.specs.Meaning.{withTable, stateAfter, rowsFor}
 use borrow.Author.Needs.{needs}
-use Rattle.interpreter.proofs.answer_withdraw.Statement.{statement}
-use Rattle.interpreter.proofs.answer_withdraw.Tie as tie
+use Rattle.answers.proofs.answer_withdraw.Statement.{statement}
+use Rattle.answers.proofs.answer_withdraw.Tie as tie
 
 -- refused, a withdrawal leaves the state
 state-kept : (s : State) (n : ℕ) → s .ready ≡ true → heldAnswer (s .table) n ≢ 0 → s ≡ stateAfter s (Withdraw n)

@@ -1,9 +1,9 @@
 use mathlib.Core.Path.{refl, sym, ap, _∙_}
 use borrow.Author.Tests.{not-true, not-false}
-use Rattle.interpreter.specs.Meaning.{withTable, stateAfter, rowsFor}
+use Rattle.answers.specs.Meaning.{withTable, stateAfter, rowsFor}
 use borrow.Author.Needs.{needs}
-use Rattle.interpreter.proofs.answer_offer.Statement.{statement}
-use Rattle.interpreter.proofs.answer_offer.Tie as tie
+use Rattle.answers.proofs.answer_offer.Statement.{statement}
+use Rattle.answers.proofs.answer_offer.Tie as tie
 
 slice-aggregate-stream-row : tie.Need-slice-aggregate-stream-row
 slice-aggregate-stream-row c = search needs

@@ -3,10 +3,10 @@ use mathlib.Core.Bool.{true, false}
 use lib.Dec.{eqb}
 use Rattle.rules.specs.Calls.{openAnswer}
 use borrow.Author.Tests.{eq-eqb, ne-eqb}
-use Rattle.interpreter.specs.Meaning.{withTable, stateAfter, rowsFor}
+use Rattle.answers.specs.Meaning.{withTable, stateAfter, rowsFor}
 use borrow.Author.Needs.{needs}
-use Rattle.interpreter.proofs.answer_open.Statement.{statement}
-use Rattle.interpreter.proofs.answer_open.Tie as tie
+use Rattle.answers.proofs.answer_open.Statement.{statement}
+use Rattle.answers.proofs.answer_open.Tie as tie
 
 open-requires : tie.Need-open-requires
 open-requires c κs = search needs

@@ -4,11 +4,11 @@ use native.Mathlib.Omega.{arith}
 use borrow.Author.Tests.{not-true, not-false}
 use Rattle.commands.specs.Commands.{beaconVerb}
 use Rattle.printing.specs.PrintedLaws.{plain-row-most, wrote, contract, wrote-then}
-use Rattle.interpreter.specs.Meaning.{withTable, stateAfter, planAfter, rowsFor}
-use Rattle.interpreter.specs.Beacons.{made}
+use Rattle.answers.specs.Meaning.{withTable, stateAfter, planAfter, rowsFor}
+use Rattle.answers.specs.Beacons.{made}
 use borrow.Author.Needs.{needs}
-use Rattle.interpreter.proofs.answer_beacon.Statement.{statement}
-use Rattle.interpreter.proofs.answer_beacon.Tie as tie
+use Rattle.answers.proofs.answer_beacon.Statement.{statement}
+use Rattle.answers.proofs.answer_beacon.Tie as tie
 
 slice-aggregate-plain-row : tie.Need-slice-aggregate-plain-row
 slice-aggregate-plain-row c = search needs

@@ -11,8 +11,8 @@ use Rattle.rules.specs.Calls.{mostRecords, wordsOf, planOf, advanced, Beacon, b
 use Rattle.rules.specs.WellFormed.{WellFormed}
 use Rattle.interval.specs.Plan.{plan-right}
 use Rattle.printing.specs.Printed.{slotRows}
-use Rattle.interpreter.specs.Meaning.{slotRowOf}
-use Rattle.interpreter.specs.Room.{planWords}
+use Rattle.answers.specs.Meaning.{slotRowOf}
+use Rattle.answers.specs.Room.{planWords}
 
 pub planned : (t : Table) (ws : List ℕ) → planWords ≤ length ws → beacon t ws ≡ plannedBeacon t ws (planOf t)
 unfolding beacon

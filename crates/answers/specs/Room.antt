@@ -3,7 +3,7 @@ use Prim.Native.Nat.{ℕ}
 use mathlib.Core.Path.{_≡_}
 use mathlib.Core.Bool.{true}
 use Rattle.rules.specs.WellFormed.{WellFormed}
-use Rattle.interpreter.specs.declared.State.{State}
+use Rattle.answers.specs.declared.State.{State}
 
 -- the words of a plan's memory, and the most bytes of a row's answer: that of a beacon with 1,024 records of 51 bytes
 abbrev pub planWords : ℕ

@@ -16,11 +16,10 @@ use Rattle.rules.specs.WellFormed.{WellFormed}
 use Rattle.ahead.specs.Formed.{opened-formed, offered-formed, withdrawn-formed, beacon-formed}
 use Rattle.commands.specs.declared.Command.{Command}
 use Rattle.commands.specs.declared.Command.the-variants.{Open, Offer, Withdraw, Beacon as Beacon-row, OtherForm}
-use Rattle.interpreter.specs.declared.State.{State}
-use Rattle.interpreter.specs.Meaning.{firstState, withTable, stateAfter}
-use Rattle.interpreter.specs.Room.{planWords, Ready}
-use Rattle.interpreter.specs.Beacons.{planned}
-use Rattle.interpreter.specs.Cutting.{firstShelf}
+use Rattle.answers.specs.declared.State.{State}
+use Rattle.answers.specs.Meaning.{firstState, withTable, stateAfter}
+use Rattle.answers.specs.Room.{planWords, Ready}
+use Rattle.answers.specs.Beacons.{planned}
 
 either-ready : (b : Bool) {s u : State} → (b ≡ true → Ready s) → Ready u → Ready (cond b s u)
 either-ready true f g = f refl
@@ -44,6 +43,6 @@ ready-after s (Withdraw n) r = either-ready (s .ready) (λ e _. withdrawn-formed
 ready-after s Beacon-row r = either-ready (s .ready) (λ e _. advanced-formed (s .table) (r e)) r
 ready-after s OtherForm r = r
 
-pub ready-first : Ready (firstShelf .state)
-unfolding firstShelf firstState
+pub ready-first : Ready firstState
+unfolding firstState
 ready-first e = absurd (clash true refl (sym e))
