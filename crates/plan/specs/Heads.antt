@@ -1,6 +1,6 @@
 -- Within a row only the first unfinished job matters: the choice among the row's jobs is that job, or none where it is not released.
 -- Assumes nothing.
-use mathlib.Core.Path.{_≡_, refl, ap}
+use mathlib.Core.Path.{_≡_, refl, ap, _∙_}
 use mathlib.Core.Bool.{Bool, true, false, cond, _&&_}
 use mathlib.Core.List.{List, [], _∷_, map}
 use mathlib.Core.Option.{Option, none, some}
@@ -9,7 +9,7 @@ use native.Mathlib.Nat.{add-zero, suc-add, add-suc, mul-le-mul-right}
 use native.Mathlib.Numerals.{add-one}
 use native.Mathlib.Omega.{arith}
 use lib.Dec.{leb, ltb, leb·suc-suc}
-use lib.ListN.{length, getD, set, drop, replicate, drop-of-length-le, List·getD-map}
+use lib.ListN.{length, getD, set, drop, replicate, length-map, drop-of-length-le, List·getD-map}
 use lib.Seq.{drop-cons}
 use borrow.Author.Tests.{lt-ltb, le-ltb, le-leb, leb-false}
 use Rattle.lists.specs.Tests.{and-false, and-true}
@@ -17,7 +17,7 @@ use Rattle.lists.specs.All.{All, stop, all-map, all-of-map}
 use Rattle.lists.specs.Picked.{picked-one}
 use Rattle.rules.specs.Slots.{Job, jobAt, dueFirst, choose}
 use Rattle.service.specs.Choice.{Choice, takes, chooses, ready-both}
-use Rattle.plan.specs.Rows.{rowFrom}
+use Rattle.plan.specs.Rows.{rowFrom, Padded}
 use Rattle.plan.specs.RowLaws.{row-all}
 
 -- the number of the first job that needs something; past the last where none does
@@ -117,3 +117,6 @@ unfolding firstLeft
 heads-spare zero nss q = all-of-map firstLeft (all-map (λ ns e. ap firstLeft e) q)
 heads-spare (suc r) [] q = stop
 heads-spare (suc r) (ns ∷ nss) q = heads-spare r nss q
+
+pub heads-padded : (rows : ℕ) (nss : List (List ℕ)) → Padded rows (replicate 16 0) nss → Padded rows 16 (map firstLeft nss)
+heads-padded rows nss q = (length-map nss firstLeft ∙ q .0, (q .1 .0, heads-spare rows nss (q .1 .1)))

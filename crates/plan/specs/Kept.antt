@@ -3,9 +3,10 @@ use mathlib.Core.Path.{_≡_, refl, sym, ap, _∙_}
 use mathlib.Core.List.{List, [], _∷_, map}
 use Prim.Native.Nat.{ℕ, zero, suc, _≤_, _<_}
 use native.Mathlib.Omega.{arith}
-use lib.ListN.{length, getD, set, drop, replicate}
-use lib.Seq.{map-set-same}
+use lib.ListN.{length, getD, set, drop, replicate, length-map}
+use lib.Seq.{map-set-same, getD-set-same}
 use Rattle.lists.specs.All.{All, stop, and, head, tail}
+use Rattle.plan.specs.Rows.{Padded}
 use Rattle.plan.specs.RowLaws.{needAt, withNeed, spare-set}
 use Rattle.plan.specs.Heads.{firstLeft, left-stays, head-at, heads-set, heads-spare}
 use Rattle.plan.specs.Places.{never, releaseOf, releasesOf}
@@ -50,27 +51,40 @@ pub record Kept (rows : ℕ) (Ts : List ℕ) (nss : List (List ℕ)) (hs rs : Li
   pub spare : All (λ ns. ns ≡ replicate 16 0) (drop rows nss)
 
 module _ {rows : ℕ} {Ts : List ℕ} {nss : List (List ℕ)} {hs rs : List ℕ} (k : Kept rows Ts nss hs rs) where
-  pub kept-never : All (λ r. r ≡ never) (drop rows rs)
-  kept-never = rw (k .releases, k .heads) (releases-spare rows Ts (map firstLeft nss) (heads-spare rows nss (k .spare)))
+  heads-sized : length hs ≡ length nss
+  heads-sized = ap length (k .heads) ∙ length-map nss firstLeft
 
-  -- a row that needs something is changed
-  pub kept-changed : (i j : ℕ) (ns : List ℕ) {h r : ℕ} → 1 ≤ needAt nss i j → h ≡ firstLeft ns → r ≡ releaseOf (getD Ts i 0) h
-      → Kept rows Ts (set nss i ns) (set hs i h) (set rs i r)
-  kept-changed i j ns {h} {r} q e f =
-      record {
-        heads = rw (k .heads, e) (sym (heads-set nss i ns));
-        releases = rw (k .releases, f) (sym (releases-set Ts hs i h));
-        spare = spare-set rows nss i j ns q (k .spare);
-      }
+  pub kept-padded : length Ts ≡ 32 → length nss ≡ 32 → rows ≤ 32 → Padded rows never rs
+  kept-padded u v l = (
+    ap length (k .releases) ∙ length-releases Ts hs (u ∙ sym v ∙ sym heads-sized) ∙ heads-sized ∙ v,
+    (l, rw (k .releases, k .heads) (releases-spare rows Ts (map firstLeft nss) (heads-spare rows nss (k .spare)))),
+  )
 
-  -- the first unfinished job of a row has run, and still needs something
-  pub kept-same : (i v : ℕ) → let j = getD hs i 0 in 1 ≤ needAt nss i j → 1 ≤ v → Kept rows Ts (withNeed nss i j v) hs rs
-  kept-same i v q l =
-      let ns : List ℕ = getD nss i [] in
-      let j : getD hs i 0 ≡ firstLeft ns = ap (λ xs. getD xs i 0) (k .heads) ∙ head-at nss i in
-      let same : firstLeft (set ns (getD hs i 0) v) ≡ firstLeft ns = rw j (left-stays ns v l) in
-      record {
-        heads = k .heads ∙ sym (map-set-same firstLeft nss i (set ns (getD hs i 0) v) [] same);
-        releases = k .releases;
-        spare = spare-set rows nss i (getD hs i 0) _ q (k .spare);
-      }
+  -- Job j of row i has run, and v slots of it are left; hs′ and rs′ are the heads and the releases then.
+  module _ (i j v : ℕ) (q : 1 ≤ needAt nss i j) {hs′ rs′ : List ℕ} where
+    -- the first unfinished job of the row is looked for
+    pub kept-changed : {h r : ℕ} → i < length nss → h ≡ firstLeft (getD (withNeed nss i j v) i [])
+        → r ≡ releaseOf (getD Ts i 0) (getD (set hs i h) i 0) → hs′ ≡ set hs i h → rs′ ≡ set rs i r
+        → Kept rows Ts (withNeed nss i j v) hs′ rs′
+    kept-changed {h} {r} l e f x y =
+        let ns : List ℕ = set (getD nss i []) j v in
+        let head : h ≡ firstLeft ns = e ∙ ap firstLeft (getD-set-same nss i ns [] l) in
+        let release : r ≡ releaseOf (getD Ts i 0) h =
+        f ∙ ap (releaseOf (getD Ts i 0)) (getD-set-same hs i h 0 (omega (arith, heads-sized))) in
+        record {
+          heads = x ∙ rw (k .heads, head) (sym (heads-set nss i ns));
+          releases = y ∙ rw (k .releases, release, x) (sym (releases-set Ts hs i h));
+          spare = spare-set rows nss i j ns q (k .spare);
+        }
+
+    -- where it still needs something it is the first
+    pub kept-same : j ≡ getD hs i 0 → 1 ≤ v → hs′ ≡ hs → rs′ ≡ rs → Kept rows Ts (withNeed nss i j v) hs′ rs′
+    kept-same e l x y =
+        let ns : List ℕ = getD nss i [] in
+        let first : j ≡ firstLeft ns = e ∙ ap (λ xs. getD xs i 0) (k .heads) ∙ head-at nss i in
+        let same : firstLeft (set ns j v) ≡ firstLeft ns = rw first (left-stays ns v l) in
+        record {
+          heads = x ∙ k .heads ∙ sym (map-set-same firstLeft nss i (set ns j v) [] same);
+          releases = y ∙ k .releases ∙ ap (releasesOf Ts) (sym x);
+          spare = spare-set rows nss i j _ q (k .spare);
+        }

@@ -43,6 +43,10 @@ unfolding nextOf
 next-most b t [] = omega arith
 next-most b t (T ∷ Ts) = omega (arith, next-most b t Ts)
 
+-- it is ahead, and not past the end
+pub next-ahead : (b t : ℕ) {Ts : List ℕ} {m : ℕ} → t < b → All (Length b) Ts → m ≡ nextOf b t Ts → (t < m) × (m ≤ b)
+next-ahead b t {Ts} h q e = omega (arith, e, next-more b t h q, next-most b t Ts)
+
 -- ---- no job is released on the way
 -- a multiple of T comes by t, or not before the first after t
 apart : (T t j : ℕ) → (j * T ≤ t) ⊎ (after T t ≤ j * T)

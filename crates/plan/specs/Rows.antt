@@ -5,7 +5,7 @@ use mathlib.Core.Bool.{Bool}
 use mathlib.Core.List.{List, [], _∷_, _++_}
 use Prim.Native.Nat.{ℕ, suc, _*_, _≤_}
 use lib.Dec.{ltb}
-use lib.ListN.{drop, replicate}
+use lib.ListN.{length, drop, replicate}
 use Rattle.lists.specs.Lists.{keep}
 use Rattle.lists.specs.All.{All}
 use Rattle.rules.specs.Slots.{Job, jobAt, slotsFrom, Run, runsFrom}
@@ -42,6 +42,10 @@ pub record Rows (b : ℕ) (streams lengths : List ℕ) (needs : List (List ℕ))
   pub short : b ≤ 1024000
   pub each : All (Length b) lengths
   pub names : Keys (keep unfinished (rowJobs streams lengths needs))
+
+-- an array with an element for each of 32 rows, which is d from `rows` on
+abbrev pub Padded : {A : Type 0} (rows : ℕ) (d : A) → List A → Type 0
+Padded rows d xs = (length xs ≡ 32) × ((rows ≤ 32) × All (λ x. x ≡ d) (drop rows xs))
 
 -- every row from `rows` on has jobs as long as the interval, which need nothing
 pub record Spare (b rows : ℕ) (Ts : List ℕ) (nss : List (List ℕ)) : Type 0 where

@@ -20,9 +20,9 @@ use Rattle.plan.specs.Rows.{unfinished, rowJobs, rowPlan, Length, Rows}
 use Rattle.plan.specs.Skipped.{Skipped, Changed, skipped-done, keys-spent, changed-spent, run-changed}
 use Rattle.plan.specs.RowLaws.{Wide, needAt, withNeed, jobIn, in-row, rows-changed, wide-with}
 use Rattle.plan.specs.Heads.{head-at}
-use Rattle.plan.specs.Places.{Short, never, releasesOf, chosenAt, heldBy, headIn, place-chosen}
+use Rattle.plan.specs.Places.{Short, short, releasesOf, chosenAt, heldBy, headIn, place-chosen}
 use Rattle.plan.specs.Kept.{Kept}
-use Rattle.plan.specs.Next.{nextOf, next-more, next-most, next-quiet}
+use Rattle.plan.specs.Next.{nextOf, next-ahead, next-quiet}
 use Rattle.plan.specs.Turns.{turns, next-turn, job-turn}
 use Rattle.plan.specs.Pens.{named, blank, openRun, pending, written, closed, extended, length-words, written-after, pending-end}
 use Rattle.plan.specs.Pens.{pending-blank, extended-pending, extended-count, extended-ends}
@@ -31,9 +31,20 @@ use Rattle.plan.specs.Pens.{pending-blank, extended-pending, extended-co
 abbrev toRun : (b t : ℕ) → List Job → List Run
 toRun b t js = runsFrom t (slotsFrom (b - t) t js)
 
+-- what the rows have, however their jobs run
+pub record Given (b : ℕ) (ss Ts : List ℕ) : Type 0 where
+  pub streams : length ss ≡ 32
+  pub lengths : length Ts ≡ 32
+  pub short : b ≤ 1024000
+  pub each : All (Length b) Ts
+
+pub lengths-short : {b : ℕ} {ss Ts : List ℕ} → Given b ss Ts → Short Ts
+lengths-short g = short (g .short) (g .each)
+
 -- What stands at t: the jobs left, of those that need something; the records done, which are the first words; and the runs to come,
 -- of which the pen has begun the first. Together they are the plan.
 pub record State (b t : ℕ) (ss Ts : List ℕ) (total : List Run) (old ws : List ℕ) (nss : List (List ℕ)) (p : Pen) : Type 0 where
+  pub given : Given b ss Ts
   pub time : t ≤ b
   pub rows : length nss ≡ 32
   pub wide : Wide nss
@@ -46,11 +57,12 @@ pub record State (b t : ℕ) (ss Ts : List ℕ) (total : List Run) (old ws : Lis
   pub plan : done ++ pending p (toRun b t (rowJobs ss Ts nss)) ≡ total
   pub ended : p .start + p .length ≤ t
 
-pub begin : {b : ℕ} {ss Ts : List ℕ} {nss : List (List ℕ)} (old : List ℕ) → Rows b ss Ts nss → length nss ≡ 32 → Wide nss
-    → State b 0 ss Ts (rowPlan b ss Ts nss) old old nss blank
+pub begin : {b : ℕ} {ss Ts : List ℕ} {nss : List (List ℕ)} (old : List ℕ) → Rows b ss Ts nss → Given b ss Ts → length nss ≡ 32
+    → Wide nss → {p : Pen} → p ≡ blank → State b 0 ss Ts (rowPlan b ss Ts nss) old old nss p
 unfolding rowPlan wordsOf
-begin {b} {ss} {Ts} {nss} old r l w =
-    record {
+begin {b} {ss} {Ts} {nss} old r g l w e =
+    rw e record {
+      given = g;
       time = omega arith;
       rows = l;
       wide = w;
@@ -97,20 +109,20 @@ module _ {b t : ℕ} {ss Ts : List ℕ} {total : List Run} {old ws : List ℕ} {
       )
 
   -- the place chosen: its first unfinished job is the choice, and one of its sixteen; or it is none
-  module _ (u : length ss ≡ 32) (v : length Ts ≡ 32) (l : Short Ts) (m : t < never) {rows : ℕ} {hs rs : List ℕ}
-      (k : Kept rows Ts nss hs rs) {i : ℕ} (f : i ≡ chosenAt t Ts rs) where
+  module _ (h : t < b) {rows : ℕ} {hs rs : List ℕ} (k : Kept rows Ts nss hs rs) {i : ℕ} (f : i ≡ chosenAt t Ts rs) where
     held : heldBy (headIn ss Ts nss) i ≡ choose t (rowJobs ss Ts nss)
     held =
+        let g = s .given in
         ap (heldBy (headIn ss Ts nss)) (f ∙ ap (chosenAt t Ts) (k .releases ∙ ap (releasesOf Ts) (k .heads)))
-        ∙ place-chosen t ss Ts nss u v (s .rows) (s .wide) l m
+        ∙ place-chosen t ss Ts nss (g .streams) (g .lengths) (s .rows) (s .wide) (lengths-short g) (omega (arith, g .short))
 
     pub none-chosen : 32 ≤ i → choose t (rowJobs ss Ts nss) ≡ none
-    none-chosen h = sym held ∙ ap (λ x. cond x (some (headIn ss Ts nss i)) none) (le-ltb i 32 h)
+    none-chosen l = sym held ∙ ap (λ x. cond x (some (headIn ss Ts nss i)) none) (le-ltb i 32 l)
 
     pub job-chosen : i < 32 → (choose t (rowJobs ss Ts nss) ≡ some (jobIn ss Ts nss i (getD hs i 0))) × (getD hs i 0 < 16)
-    job-chosen h =
+    job-chosen l =
         let c : choose t (rowJobs ss Ts nss) ≡ some (jobIn ss Ts nss i (getD hs i 0)) =
-        sym held ∙ ap (λ x. cond x (some (headIn ss Ts nss i)) none) (lt-ltb i 32 h)
+        sym held ∙ ap (λ x. cond x (some (headIn ss Ts nss i)) none) (lt-ltb i 32 l)
         ∙ ap (λ j. some (jobIn ss Ts nss i j)) (sym (ap (λ xs. getD xs i 0) (k .heads) ∙ head-at nss i)) in
         let r : i < length nss = omega (arith, s .rows) in (
           c,
@@ -121,17 +133,23 @@ module _ {b t : ℕ} {ss Ts : List ℕ} {total : List Run} {old ws : List ℕ} {
           ),
         )
 
-  module _ (u : length ss ≡ 32) (v : length Ts ≡ 32) (h : t < b) (q : All (Length b) Ts) where
+  module _ (h : t < b) where
+    -- the next release
+    pub coming : {m : ℕ} → m ≡ nextOf b t Ts → (t < m) × (m ≤ b)
+    coming f = next-ahead b t h (s .given .each) f
+
     -- a release has come, or the end
-    pub idle-less : turns b (nextOf b t Ts) (rowJobs ss Ts nss) < turns b t (rowJobs ss Ts nss)
-    idle-less = next-turn b t ss Ts nss (omega arith) (omega (arith, s .rows)) h q (s .wide)
+    pub idle-less : {m : ℕ} → m ≡ nextOf b t Ts → turns b m (rowJobs ss Ts nss) < turns b t (rowJobs ss Ts nss)
+    idle-less f =
+        let g = s .given in
+        rw f
+        (next-turn b t ss Ts nss (omega (arith, g .streams, g .lengths)) (omega (arith, g .lengths, s .rows)) h (g .each) (s .wide))
 
     -- Idle time, to the next release.
-    pub idle-step : choose t (rowJobs ss Ts nss) ≡ none → State b (nextOf b t Ts) ss Ts total old ws nss p
-    idle-step e =
+    pub idle-step : {m : ℕ} → m ≡ nextOf b t Ts → choose t (rowJobs ss Ts nss) ≡ none → State b m ss Ts total old ws nss p
+    idle-step {m} f e =
         let js : List Job = rowJobs ss Ts nss in
-        let m : ℕ = nextOf b t Ts in
-        let l : (t < m) × (m ≤ b) = (next-more b t h q, next-most b t Ts) in
+        let l : (t < m) × (m ≤ b) = coming f in
         let n : b - t ≡ m - t + (b - m) = omega arith in
         let x : t + (m - t) ≡ m = omega arith in
         let runs : toRun b t js ≡ toRun b m js =
@@ -140,6 +158,7 @@ module _ {b t : ℕ} {ss Ts : List ℕ} {total : List Run} {old ws : List ℕ} {
         ∙ runs-idle (m - t) t (slotsFrom (b - m) (t + (m - t)) js)
         ∙ ap (λ y. runsFrom y (slotsFrom (b - m) y js)) x in
         record {
+          given = s .given;
           time = l .1;
           rows = s .rows;
           wide = s .wide;
@@ -162,13 +181,14 @@ module _ {b t : ℕ} {ss Ts : List ℕ} {total : List Run} {old ws : List ℕ} {
           (rowJobs ss Ts (withNeed nss i j (needAt nss i j - n)))
       left-changed =
           let r : i < length nss = omega (arith, s .rows) in
-          rows-changed ss Ts nss i j (needAt nss i j - n) (omega arith) (omega arith) r
+          let g = s .given in
+          rows-changed ss Ts nss i j (needAt nss i j - n) (omega (arith, g .streams)) (omega (arith, g .lengths)) r
           (omega (arith, all-at (λ (ns : List ℕ). length ns ≡ 16) nss [] (s .wide) i r))
 
       -- the job has ended, or a release or the end has come
       pub job-less : turns b (t + n) (rowJobs ss Ts (withNeed nss i j (needAt nss i j - n))) < turns b t (rowJobs ss Ts nss)
       job-less =
-          job-turn b t n (nextOf b t Ts) left-changed (chosen-needs t (rowJobs ss Ts nss) e) h f (next-more b t h q) idle-less
+          job-turn b t n (nextOf b t Ts) left-changed (chosen-needs t (rowJobs ss Ts nss) e) h f (coming refl .0) (idle-less refl)
 
       ran : let k = named (getD ss i 0) j in
           State b (t + n) ss Ts total old (written (p .count) (closed p k t) ws) (withNeed nss i j (needAt nss i j - n)) (extended p k t n)
@@ -178,7 +198,7 @@ module _ {b t : ℕ} {ss Ts : List ℕ} {total : List Run} {old ws : List ℕ} {
           let x : Job = jobIn ss Ts nss i j in
           let ks : List Job = rowJobs ss Ts (withNeed nss i j (needAt nss i j - n)) in
           let need : 1 ≤ x .need = chosen-needs t js e in
-          let l : (t < nextOf b t Ts) × (nextOf b t Ts ≤ b) = (next-more b t h q, next-most b t Ts) in
+          let l : (t < nextOf b t Ts) × (nextOf b t Ts ≤ b) = coming refl in
           let one : 1 ≤ n = omega arith in
           let r : i < length nss = omega (arith, s .rows) in
           let z : b - t ≡ n + (b - (t + n)) = omega arith in
@@ -188,6 +208,7 @@ module _ {b t : ℕ} {ss Ts : List ℕ} {total : List Run} {old ws : List ℕ} {
           ∙ ap (runsFrom t) (run-changed n (b - (t + n)) t x (s .skipped) (s .names) e (omega arith) quiet left-changed need)
           ∙ runs-joined n t k (slotsFrom (b - (t + n)) (t + n) ks) one in
           record {
+            given = s .given;
             time = omega arith;
             rows = length-set nss i _ ∙ s .rows;
             wide = wide-with nss i j _ r (s .wide);

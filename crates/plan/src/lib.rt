@@ -9,7 +9,7 @@ ghost use lib.ListN.{length, drop, replicate};
 ghost use Rattle.lists.specs.All.{All};
 ghost use Rattle.rules.specs.Slots.{run};
 ghost use Rattle.rules.specs.Calls.{wordsOf};
-ghost use Rattle.plan.specs.Rows.{Length, Rows, Spare, rowPlan};
+ghost use Rattle.plan.specs.Rows.{Length, Rows, Padded, Spare, rowPlan};
 ghost use Rattle.plan.specs.Heads.{firstLeft};
 ghost use Rattle.plan.specs.Next.{nextOf};
 ghost use Rattle.plan.specs.Places.{Short, never, releaseOf, releasesOf, chosenAt};
@@ -34,10 +34,10 @@ fn smaller(a: u32, b: u32) -> u32
 }
 
 // The first release after t of any row's jobs; at most b, the end. Rows as long as the interval release none before it.
-fn next_release(b: u32, rows: usize, lengths: [u32; 32], t: u32) -> u32
-    requires { ⌜ (t < b) × ((b ≤ 1024000) × All (Length b) lengths) ⌝ }
-    requires { ⌜ (rows ≤ 32) × All (λ T. T ≡ b) (drop rows lengths) ⌝ }
-    ensures { λ r. ⌜ r ≡ nextOf b t lengths ⌝ }
+fn next_release(b: u32, rows: usize, lengths: &[u32; 32], t: u32) -> u32
+    requires { ⌜ (t < b) × ((b ≤ 1024000) × All (Length b) (now lengths)) ⌝ }
+    requires { ⌜ Padded rows b (now lengths) ⌝ }
+    ensures { λ r. ⌜ r ≡ nextOf b t (now (lengths .entry)) ⌝ }
 {
     let mut next = b;
     for i in 0..rows {
@@ -49,10 +49,10 @@ fn next_release(b: u32, rows: usize, lengths: [u32; 32], t: u32) -> u32
 }
 
 // The same; the one found last still is the next while it is ahead, so that it is looked for only where one has come.
-fn next_after(b: u32, rows: usize, lengths: [u32; 32], t: u32, next: u32) -> u32
-    requires { ⌜ (t < b) × ((b ≤ 1024000) × (All (Length b) lengths × (t < next → next ≡ nextOf b t lengths))) ⌝ }
-    requires { ⌜ (rows ≤ 32) × All (λ T. T ≡ b) (drop rows lengths) ⌝ }
-    ensures { λ r. ⌜ r ≡ nextOf b t lengths ⌝ }
+fn next_after(b: u32, rows: usize, lengths: &[u32; 32], t: u32, next: u32) -> u32
+    requires { ⌜ (t < b) × ((b ≤ 1024000) × (All (Length b) (now lengths) × (t < next → next ≡ nextOf b t (now lengths)))) ⌝ }
+    requires { ⌜ Padded rows b (now lengths) ⌝ }
+    ensures { λ r. ⌜ r ≡ nextOf b t (now (lengths .entry)) ⌝ }
 {
     if t < next {
         return next;
@@ -73,9 +73,9 @@ fn first_left(row: [u32; 16]) -> usize
 }
 
 // The same of each row; those behind the first rows need nothing.
-fn first_jobs(rows: usize, needs: [[u32; 16]; 32]) -> [usize; 32]
-    requires { ⌜ (rows ≤ 32) × All (λ ns. ns ≡ replicate 16 0) (drop rows needs) ⌝ }
-    ensures { λ r. ⌜ r ≡ map firstLeft needs ⌝ }
+fn first_jobs(rows: usize, needs: &[[u32; 16]; 32]) -> [usize; 32]
+    requires { ⌜ Padded rows (replicate 16 0) (now needs) ⌝ }
+    ensures { λ r. ⌜ r ≡ map firstLeft (now (needs .entry)) ⌝ }
 {
     let mut heads = [16usize; 32];
     for i in 0..rows {
@@ -98,10 +98,10 @@ fn release_of(length: u32, job: usize) -> u32
 }
 
 // The same of each row; those behind the first rows have none.
-fn first_releases(rows: usize, lengths: [u32; 32], heads: [usize; 32]) -> [u32; 32]
-    requires { ⌜ Short lengths ⌝ }
-    requires { ⌜ (rows ≤ 32) × All (λ h. h ≡ 16) (drop rows heads) ⌝ }
-    ensures { λ r. ⌜ r ≡ releasesOf lengths heads ⌝ }
+fn first_releases(rows: usize, lengths: &[u32; 32], heads: &[usize; 32]) -> [u32; 32]
+    requires { ⌜ (length (now lengths) ≡ 32) × Short (now lengths) ⌝ }
+    requires { ⌜ Padded rows 16 (now heads) ⌝ }
+    ensures { λ r. ⌜ r ≡ releasesOf (now (lengths .entry)) (now (heads .entry)) ⌝ }
 {
     let mut releases = [NEVER; 32];
     for i in 0..rows {
@@ -111,10 +111,10 @@ fn first_releases(rows: usize, lengths: [u32; 32], heads: [usize; 32]) -> [u32; 
 }
 
 // The place of the job that slot t goes to: of those due first the first; 32 where the slot is idle.
-fn choose_place(t: u32, rows: usize, lengths: [u32; 32], releases: [u32; 32]) -> usize
-    requires { ⌜ (t ≤ 1024000) × Short lengths ⌝ }
-    requires { ⌜ (rows ≤ 32) × All (λ r. r ≡ never) (drop rows releases) ⌝ }
-    ensures { λ r. ⌜ r ≡ chosenAt t lengths releases ⌝ }
+fn choose_place(t: u32, rows: usize, lengths: &[u32; 32], releases: &[u32; 32]) -> usize
+    requires { ⌜ (t ≤ 1024000) × ((length (now lengths) ≡ 32) × Short (now lengths)) ⌝ }
+    requires { ⌜ Padded rows never (now releases) ⌝ }
+    ensures { λ r. ⌜ r ≡ chosenAt t (now (lengths .entry)) (now (releases .entry)) ⌝ }
 {
     let mut place: usize = 32;
     let mut best = NEVER;
@@ -221,14 +221,14 @@ pub fn write_plan(
         × (now (plan .exit) ≡ wordsOf (rowPlan b streams lengths needs) ++ drop (4 * r) (now (plan .entry)))) ⌝ }
 {
     let mut left = needs;
-    let mut heads = first_jobs(rows, needs);
-    let mut releases = first_releases(rows, lengths, heads);
+    let mut heads = first_jobs(rows, &left);
+    let mut releases = first_releases(rows, &lengths, &heads);
     let mut pen = blank_pen();
     let mut t: u32 = 0;
     let mut next: u32 = 0;
     while t < b {
-        next = next_after(b, rows, lengths, t, next);
-        let i = choose_place(t, rows, lengths, releases);
+        next = next_after(b, rows, &lengths, t, next);
+        let i = choose_place(t, rows, &lengths, &releases);
         if i < 32 {
             let j = heads[i];
             let need = left[i][j];

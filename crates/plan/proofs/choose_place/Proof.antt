@@ -6,10 +6,8 @@ use Prim.Native.Nat.{_≤_, _<_, _-_, _+_}
 use native.Mathlib.Omega.{arith}
 use lib.ListN.{length, drop, getD}
 use borrow.Author.Needs.{needs}
-use denote.Builtin.{u32}
 use Rattle.lists.specs.All.{All, all-at}
 use Rattle.plan.specs.Places.{never, placeFrom, chosenAt, place-better, place-kept, due-soon, due-never, place-end}
-use Rattle.lists.proofs.Known.{sized}
 use Rattle.plan.proofs.choose_place.Statement.{statement}
 use Rattle.plan.proofs.choose_place.Tie as tie
 
@@ -21,10 +19,10 @@ abbrev μ-loop : tie.MeasureT-loop
 μ-loop t rows lengths releases place₀ best₀ i₀ place best i = rows - i
 
 inside : (c : tie.In-loop Inv-loop μ-loop)
-    → (c .before .loop .i < length (c .before .before .args .t3)) × (c .before .loop .i < length (c .before .before .args .t4))
+    → (c .before .loop .i < length (c .before .before .args .lengths .now)) × (c .before .loop .i < length (c .before .before .args .releases .now))
 inside c =
     let s = c .before .before in
-    omega (arith, sized u32 32 (s .args .t3) (s .good .1 .1 .0), sized u32 32 (s .args .t4) (s .good .1 .1 .1 .0))
+    omega (arith, s .pre .0 .1 .0, s .pre .1 .0)
 
 loop-holds : tie.Need-loop-holds Inv-loop μ-loop
 loop-holds c = (omega arith, (omega arith, refl))
@@ -32,21 +30,22 @@ loop-holds c = (omega arith, (omega arith, refl))
 mul-release : tie.Need-mul-release Inv-loop μ-loop
 mul-release c = search needs
 
-array-read-release : tie.Need-array-read-release Inv-loop μ-loop
-array-read-release c = search needs
+element-copy-out-release : tie.Need-element-copy-out-release Inv-loop μ-loop
+element-copy-out-release c = search needs
 
 mul-due : tie.Need-mul-due Inv-loop μ-loop
 mul-due c = search needs
 
-array-read-due : tie.Need-array-read-due Inv-loop μ-loop
-array-read-due c = search needs
+element-copy-out-due : tie.Need-element-copy-out-due Inv-loop μ-loop
+element-copy-out-due c = search needs
 
 add-due : tie.Need-add-due Inv-loop μ-loop
 add-due c =
-    let l = c .before .before in
+    let w = c .before .before .before in
+    let l = w .before in
     let s = l .before in
-    let short = all-at (λ T. T ≤ 1024000) (s .args .t3) 0 (s .pre .0 .1) (l .loop .i) (inside (c .before) .0) in
-    record { fits = omega (arith, short, s .pre .0 .0, c .if1 .taken) }
+    let short = all-at (λ T. T ≤ 1024000) (s .args .lengths .now) 0 (s .pre .0 .1 .1) (l .loop .i) (inside w .0) in
+    record { fits = omega (arith, short, s .pre .0 .0, c .before .if1 .taken) }
 
 add-i : tie.Need-add-i Inv-loop μ-loop
 add-i c = search needs
@@ -56,34 +55,34 @@ loop-less c = search needs
 
 loop-again : tie.Need-loop-again Inv-loop μ-loop
 loop-again c =
-    let l = c .before .before in
+    let l = c .before .before .before in
     let a = l .before .args in
     let i = l .loop .i in
     let p = l .loop .place in
     let d = l .loop .best in
-    let T = getD (a .t3) i 0 in
-    let r = getD (a .t4) i 0 in
-    let h = inside (c .before) in
+    let T = getD (a .lengths .now) i 0 in
+    let r = getD (a .releases .now) i 0 in
+    let h = inside (c .before .before) in
     let so-far = l .loop .inv .1 .1 in (
       omega arith,
       ⊎-elim
           (λ w. (
-            omega (arith, w .1 .taken, w .3, l .loop .inv .1 .0),
+            omega (arith, w .2 .taken, w .4, l .loop .inv .1 .0),
             so-far
-                ∙ place-better (a .t) i p d (r + T) (a .t3) (a .t4) (h .0) (h .1) (due-soon (a .t) T r (w .0 .taken)) (w .1 .taken)
-                ∙ rw (w .2, w .3),
+                ∙ place-better (a .t) i p d (r + T) (a .lengths .now) (a .releases .now) (h .0) (h .1) (due-soon (a .t) T r (w .0 .taken)) (w .2 .taken)
+                ∙ rw (w .3, w .4),
           ))
           (⊎-elim
           (λ w. (
-            omega (arith, w .3, l .loop .inv .1 .0),
+            omega (arith, w .4, l .loop .inv .1 .0),
             so-far
-                ∙ place-kept (a .t) i p d (r + T) (a .t3) (a .t4) (h .0) (h .1) (due-soon (a .t) T r (w .0 .taken)) (w .1 .left)
-                ∙ rw (w .2, w .3),
+                ∙ place-kept (a .t) i p d (r + T) (a .lengths .now) (a .releases .now) (h .0) (h .1) (due-soon (a .t) T r (w .0 .taken)) (w .2 .left)
+                ∙ rw (w .3, w .4),
           ))
           (λ w. (
             omega (arith, w .2, l .loop .inv .1 .0),
             so-far
-                ∙ place-kept (a .t) i p d never (a .t3) (a .t4) (h .0) (h .1) (due-never (a .t) T r (w .0 .left)) (l .loop .inv .1 .0)
+                ∙ place-kept (a .t) i p d never (a .lengths .now) (a .releases .now) (h .0) (h .1) (due-never (a .t) T r (w .0 .left)) (l .loop .inv .1 .0)
                 ∙ rw (w .1, w .2),
           )))
           (c .if1 .came),
@@ -95,11 +94,11 @@ returns c =
     let s = l .before in
     let a = s .args in
     let e : a .rows ≡ l .loop .i = omega arith in
-    let spare = subst (λ i. All (λ r. r ≡ never) (drop i (a .t4))) e (s .pre .1 .1) in
+    let spare = subst (λ i. All (λ r. r ≡ never) (drop i (a .releases .now))) e (s .pre .1 .1 .1) in
     let soon : a .t < never = omega (arith, s .pre .0 .0) in
     sym
     (l .loop .inv .1 .1
-    ∙ place-end (a .t) (l .loop .i) (l .loop .place) (l .loop .best) (drop (l .loop .i) (a .t3)) soon (l .loop .inv .1 .0) spare)
+    ∙ place-end (a .t) (l .loop .i) (l .loop .place) (l .loop .best) (drop (l .loop .i) (a .lengths .now)) soon (l .loop .inv .1 .0) spare)
 
 pub choose-place-spec : {M : Type 1} → statement M
 choose-place-spec =
@@ -109,9 +108,9 @@ choose-place-spec =
     μ-loop
     loop-holds
     mul-release
-    array-read-release
+    element-copy-out-release
     mul-due
-    array-read-due
+    element-copy-out-due
     add-due
     add-i
     loop-less

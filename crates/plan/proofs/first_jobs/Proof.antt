@@ -6,11 +6,8 @@ use Prim.Native.Nat.{_-_}
 use native.Mathlib.Omega.{arith}
 use lib.ListN.{length, length-map}
 use borrow.Author.Needs.{needs}
-use denote.Array.{Array}
-use denote.Builtin.{u32}
 use Rattle.lists.specs.Spare.{Filling, filling-none, filling-more, filling-all}
 use Rattle.plan.specs.Heads.{firstLeft, head-at, heads-spare}
-use Rattle.lists.proofs.Known.{sized}
 use Rattle.plan.proofs.first_jobs.Statement.{statement}
 use Rattle.plan.proofs.first_jobs.Tie as tie
 
@@ -21,8 +18,8 @@ abbrev μ-loop : tie.MeasureT-loop
 μ-loop rows needs heads₀ i₀ heads i = rows - i
 
 -- how many heads there are
-heads-sized : (z : tie.Start Inv-loop μ-loop) → length (map firstLeft (z .args .t2)) ≡ 32
-heads-sized z = length-map (z .args .t2) firstLeft ∙ sized (Array u32 16) 32 (z .args .t2) (z .good .1 .0)
+heads-sized : (z : tie.Start Inv-loop μ-loop) → length (map firstLeft (z .args .needs .now)) ≡ 32
+heads-sized z = length-map (z .args .needs .now) firstLeft ∙ z .pre .0
 
 loop-holds : tie.Need-loop-holds Inv-loop μ-loop
 loop-holds c = filling-none (heads-sized c)
@@ -30,8 +27,8 @@ loop-holds c = filling-none (heads-sized c)
 mul-row : tie.Need-mul-row Inv-loop μ-loop
 mul-row c = search needs
 
-array-copy-out-row : tie.Need-array-copy-out-row Inv-loop μ-loop
-array-copy-out-row c = search needs
+element-copy-out-row : tie.Need-element-copy-out-row Inv-loop μ-loop
+element-copy-out-row c = search needs
 
 first-left-requires : tie.Need-first-left-requires Inv-loop μ-loop
 first-left-requires c κs = search needs
@@ -53,13 +50,13 @@ loop-again c =
     let l = c .before .before .before in
     let s = l .before in
     let more = c .before .before .loop-test .taken in
-    filling-more (l .loop .inv) 0 (omega (arith, heads-sized s)) more (c .first-left .ensures ∙ sym (head-at (s .args .t2) (l .loop .i)))
+    filling-more (l .loop .inv) 0 (omega (arith, heads-sized s)) more (c .first-left .ensures ∙ sym (head-at (s .args .needs .now) (l .loop .i)))
 
 returns : tie.Need-returns Inv-loop μ-loop
 returns c =
     let l = c .before in
     let s = l .before in
-    filling-all (l .loop .inv) (c .loop-test .left) (heads-spare (s .args .rows) (s .args .t2) (s .pre .1))
+    filling-all (l .loop .inv) (c .loop-test .left) (heads-spare (s .args .rows) (s .args .needs .now) (s .pre .1 .1))
 
 pub first-jobs-spec : {M : Type 1} → statement M
 first-jobs-spec =
@@ -69,7 +66,7 @@ first-jobs-spec =
     μ-loop
     loop-holds
     mul-row
-    array-copy-out-row
+    element-copy-out-row
     first-left-requires
     mul-heads
     array-write-heads

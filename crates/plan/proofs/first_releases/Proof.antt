@@ -5,12 +5,10 @@ use Prim.Native.Nat.{_≤_, _<_, _-_}
 use native.Mathlib.Omega.{arith}
 use lib.ListN.{length}
 use borrow.Author.Needs.{needs}
-use denote.Builtin.{u32, usize}
 use Rattle.lists.specs.All.{all-at}
 use Rattle.lists.specs.Spare.{Filling, filling-none, filling-more, filling-all}
 use Rattle.plan.specs.Places.{never, releasesOf}
 use Rattle.plan.specs.Kept.{length-releases, release-at, releases-spare}
-use Rattle.lists.proofs.Known.{sized}
 use Rattle.plan.proofs.first_releases.Statement.{statement}
 use Rattle.plan.proofs.first_releases.Tie as tie
 
@@ -20,15 +18,9 @@ Inv-loop rows lengths heads releases₀ i₀ releases i = Filling never (release
 abbrev μ-loop : tie.MeasureT-loop
 μ-loop rows lengths heads releases₀ i₀ releases i = rows - i
 
--- how long the arrays are
-lengths-sized : (z : tie.Start Inv-loop μ-loop) → length (z .args .t2) ≡ 32
-lengths-sized z = sized u32 32 (z .args .t2) (z .good .1 .0)
-
-heads-sized : (z : tie.Start Inv-loop μ-loop) → length (z .args .t3) ≡ 32
-heads-sized z = sized usize 32 (z .args .t3) (z .good .1 .1 .0)
-
-releases-sized : (z : tie.Start Inv-loop μ-loop) → length (releasesOf (z .args .t2) (z .args .t3)) ≡ 32
-releases-sized z = length-releases (z .args .t2) (z .args .t3) (lengths-sized z ∙ sym (heads-sized z)) ∙ heads-sized z
+-- how many releases there are
+releases-sized : (z : tie.Start Inv-loop μ-loop) → length (releasesOf (z .args .lengths .now) (z .args .heads .now)) ≡ 32
+releases-sized z = length-releases (z .args .lengths .now) (z .args .heads .now) (z .pre .0 .0 ∙ sym (z .pre .1 .0)) ∙ z .pre .1 .0
 
 loop-holds : tie.Need-loop-holds Inv-loop μ-loop
 loop-holds c = filling-none (releases-sized c)
@@ -36,20 +28,21 @@ loop-holds c = filling-none (releases-sized c)
 mul-release-of : tie.Need-mul-release-of Inv-loop μ-loop
 mul-release-of c = search needs
 
-array-read-release-of : tie.Need-array-read-release-of Inv-loop μ-loop
-array-read-release-of c = search needs
+element-copy-out-release-of : tie.Need-element-copy-out-release-of Inv-loop μ-loop
+element-copy-out-release-of c = search needs
 
 mul-release-of-2 : tie.Need-mul-release-of-2 Inv-loop μ-loop
 mul-release-of-2 c = search needs
 
-array-read-release-of-2 : tie.Need-array-read-release-of-2 Inv-loop μ-loop
-array-read-release-of-2 c = search needs
+element-copy-out-release-of-2 : tie.Need-element-copy-out-release-of-2 Inv-loop μ-loop
+element-copy-out-release-of-2 c = search needs
 
 release-of-requires : tie.Need-release-of-requires Inv-loop μ-loop
 release-of-requires c κs =
-    let s = c .before .before in
-    let h : c .before .loop .i < length (s .args .t2) = omega (arith, lengths-sized s) in
-    all-at (λ T. T ≤ 1024000) (s .args .t2) 0 (s .pre .0) (c .before .loop .i) h
+    let l = c .before .before .before in
+    let s = l .before in
+    let h : l .loop .i < length (s .args .lengths .now) = omega (arith, s .pre .0 .0) in
+    all-at (λ T. T ≤ 1024000) (s .args .lengths .now) 0 (s .pre .0 .1) (l .loop .i) h
 
 mul-releases : tie.Need-mul-releases Inv-loop μ-loop
 mul-releases c = search needs
@@ -65,17 +58,17 @@ loop-less c = search needs
 
 loop-again : tie.Need-loop-again Inv-loop μ-loop
 loop-again c =
-    let l = c .before .before in
+    let l = c .before .before .before .before in
     let s = l .before in
-    let more = c .before .loop-test .taken in
-    let at = release-at (s .args .t2) (s .args .t3) (l .loop .i) (omega (arith, lengths-sized s)) (omega (arith, heads-sized s)) in
+    let more = c .before .before .before .loop-test .taken in
+    let at = release-at (s .args .lengths .now) (s .args .heads .now) (l .loop .i) (omega (arith, s .pre .0 .0)) (omega (arith, s .pre .1 .0)) in
     filling-more (l .loop .inv) 0 (omega (arith, releases-sized s)) more (c .release-of .ensures ∙ sym at)
 
 returns : tie.Need-returns Inv-loop μ-loop
 returns c =
     let l = c .before in
     let s = l .before in
-    filling-all (l .loop .inv) (c .loop-test .left) (releases-spare (s .args .rows) (s .args .t2) (s .args .t3) (s .pre .1 .1))
+    filling-all (l .loop .inv) (c .loop-test .left) (releases-spare (s .args .rows) (s .args .lengths .now) (s .args .heads .now) (s .pre .1 .1 .1))
 
 pub first-releases-spec : {M : Type 1} → statement M
 first-releases-spec =
@@ -85,9 +78,9 @@ first-releases-spec =
     μ-loop
     loop-holds
     mul-release-of
-    array-read-release-of
+    element-copy-out-release-of
     mul-release-of-2
-    array-read-release-of-2
+    element-copy-out-release-of-2
     release-of-requires
     mul-releases
     array-write-releases

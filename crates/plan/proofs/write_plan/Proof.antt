@@ -3,26 +3,24 @@
 -- Assumes nothing.
 use mathlib.Core.Logic.{⊎-elim}
 use mathlib.Core.Option.{none, some}
-use mathlib.Core.Path.{_≡_, sym, ap, subst, subst₂, _∙_}
-use mathlib.Core.List.{List, []}
+use mathlib.Core.Path.{_≡_, refl, sym, subst, _∙_}
+use mathlib.Core.List.{List}
 use Prim.Native.Nat.{ℕ, _≤_, _<_, _+_, _*_, _-_, min}
 use native.Mathlib.Omega.{arith}
-use lib.ListN.{length, getD, set, drop, length-map}
-use lib.Seq.{getD-set-same}
+use lib.ListN.{length, getD, replicate}
 use borrow.Author.Needs.{needs}
 use denote.Array.{Array}
 use denote.Builtin.{u32}
-use Rattle.lists.specs.All.{All, all-at}
+use Rattle.lists.specs.All.{all-at}
 use Rattle.rules.specs.Slots.{Job, Run, choose}
-use Rattle.plan.specs.Rows.{rowJobs, rowPlan}
+use Rattle.plan.specs.Rows.{rowJobs, rowPlan, Padded}
 use Rattle.plan.specs.RowLaws.{needAt, withNeed, jobIn, Wide, plan-few}
-use Rattle.plan.specs.Heads.{heads-spare, firstLeft}
-use Rattle.plan.specs.Places.{Short, short, releaseOf}
-use Rattle.plan.specs.Kept.{Kept, kept-never, kept-changed, kept-same}
-use Rattle.plan.specs.Next.{next-more, next-most, next-same, nextOf}
+use Rattle.plan.specs.Heads.{heads-padded}
+use Rattle.plan.specs.Kept.{Kept, kept-padded, kept-changed, kept-same}
+use Rattle.plan.specs.Next.{next-same, nextOf}
 use Rattle.plan.specs.Turns.{turns}
-use Rattle.plan.specs.Steps.{State, begin, room, finish, chosen-needs, none-chosen, job-chosen}
-use Rattle.plan.specs.Steps.{idle-less, idle-step, job-less, job-step}
+use Rattle.plan.specs.Steps.{Given, lengths-short, State, begin, room, finish, chosen-needs, none-chosen, job-chosen}
+use Rattle.plan.specs.Steps.{coming, idle-less, idle-step, job-less, job-step}
 use Rattle.lists.proofs.Known.{sized}
 use Rattle.plan.proofs.Known.{wide}
 use Rattle.plan.proofs.write_plan.Statement.{statement}
@@ -39,20 +37,26 @@ abbrev μ-loop : tie.MeasureT-loop
 
 -- the function's entry, from a turn of the loop
 abbrev entry : tie.At-loop Inv-loop μ-loop → tie.Start Inv-loop μ-loop
-entry l = l .before .before .before .before .before
+entry l = l .before .before .before .before .before .before .before .before
 
 abbrev total : tie.Start Inv-loop μ-loop → List Run
 total z = rowPlan (z .args .b) (z .args .t3) (z .args .t4) (z .args .needs)
 
--- how long the arrays are
-streams-sized : (z : tie.Start Inv-loop μ-loop) → length (z .args .t3) ≡ 32
-streams-sized z = sized u32 32 (z .args .t3) (z .good .1 .1 .0)
-
-lengths-sized : (z : tie.Start Inv-loop μ-loop) → length (z .args .t4) ≡ 32
-lengths-sized z = sized u32 32 (z .args .t4) (z .good .1 .1 .1 .0)
+-- what is given of the rows, and how long the arrays are
+given : (z : tie.Start Inv-loop μ-loop) → Given (z .args .b) (z .args .t3) (z .args .t4)
+given z =
+    record {
+      streams = sized u32 32 (z .args .t3) (z .good .1 .1 .0);
+      lengths = sized u32 32 (z .args .t4) (z .good .1 .1 .1 .0);
+      short = z .pre .0 .0 .short;
+      each = z .pre .0 .0 .each;
+    }
 
 rows-sized : (z : tie.Start Inv-loop μ-loop) → (length (z .args .needs) ≡ 32) × Wide (z .args .needs)
 rows-sized z = (sized (Array u32 16) 32 (z .args .needs) (z .good .1 .1 .1 .1 .0), wide 32 (z .args .needs) _ (z .good .1 .1 .1 .1 .0))
+
+needs-padded : (z : tie.Start Inv-loop μ-loop) → Padded (z .args .rows) (replicate 16 0) (z .args .needs)
+needs-padded z = (rows-sized z .0, (z .pre .1 .0, z .pre .1 .1 .needs))
 
 few : (z : tie.Start Inv-loop μ-loop) → length (total z) ≤ 992
 few z = plan-few (z .pre .0 .0) (rows-sized z .0) (rows-sized z .1)
@@ -62,29 +66,20 @@ spare : (l : tie.At-loop Inv-loop μ-loop)
     → (length (l .loop .plan) ≡ length (entry l .args .plan .now)) × (4 * l .loop .pen .count + 4 ≤ length (l .loop .plan))
 spare l = room (l .loop .inv .0) (few (entry l)) (entry l .pre .0 .1)
 
--- lengths are short, and so is the time
-shorts : (z : tie.Start Inv-loop μ-loop) → Short (z .args .t4)
-shorts z = short (z .pre .0 .0 .short) (z .pre .0 .0 .each)
+-- a turn that has its place: where it began, and its next release
+abbrev within : tie.After-choose-place Inv-loop μ-loop → tie.In-loop Inv-loop μ-loop
+within p = p .before .before .before .before .before
 
-soon : (w : tie.In-loop Inv-loop μ-loop) → w .before .loop .t ≤ 1024000
-soon w = omega (arith, w .loop-test .taken, entry (w .before) .pre .0 .0 .short)
+abbrev release : tie.After-choose-place Inv-loop μ-loop → ℕ
+release p = p .before .before .before .next-after .result
 
--- the next release is ahead
-coming : (w : tie.After-next-after Inv-loop μ-loop)
-    → (w .before .before .loop .t < w .next-after .result) × (w .next-after .result ≤ entry (w .before .before) .args .b)
-coming w =
-    let l = w .before .before in
-    let z = entry l in
-    omega (
-      arith,
-      w .next-after .ensures,
-      next-more (z .args .b) (l .loop .t) (w .before .loop-test .taken) (z .pre .0 .0 .each),
-      next-most (z .args .b) (l .loop .t) (z .args .t4),
-    )
+ahead : (p : tie.After-choose-place Inv-loop μ-loop) → let l = within p .before in
+    (l .loop .t < release p) × (release p ≤ entry l .args .b)
+ahead p = coming (within p .before .loop .inv .0) (within p .loop-test .taken) (p .before .before .before .next-after .ensures)
 
 -- the turn of a job, its place and its number
 abbrev turn : tie.Then1 Inv-loop μ-loop → tie.At-loop Inv-loop μ-loop
-turn c = c .before .before .before .before
+turn c = within (c .before) .before
 
 abbrev place : tie.Then1 Inv-loop μ-loop → ℕ
 place c = c .before .choose-place .result
@@ -100,11 +95,8 @@ chosen : (c : tie.Then1 Inv-loop μ-loop) → let l = turn c in
     (choose (l .loop .t) (jobsAt l) ≡ some (jobIn (entry l .args .t3) (entry l .args .t4) (l .loop .left) (place c) (number c)))
     × (number c < 16)
 chosen c =
-    let l = turn c in
-    let z = entry l in
-    job-chosen (l .loop .inv .0) (streams-sized z) (lengths-sized z) (shorts z) (omega (arith, soon (c .before .before .before)))
-    (l .loop .inv .1 .0)
-    (c .before .choose-place .ensures) (c .if1 .taken)
+    let i = turn c .loop .inv in
+    job-chosen (i .0) (within (c .before) .loop-test .taken) (i .1 .0) (c .before .choose-place .ensures) (c .if1 .taken)
 
 -- what it needs, and how long it runs
 abbrev need : tie.Then1 Inv-loop μ-loop → ℕ
@@ -115,12 +107,12 @@ job s = s .before .before
 
 ran : (s : tie.After-smaller Inv-loop μ-loop) → let l = turn (job s) in
     (s .smaller .result ≡ min (need (job s)) (nextOf (entry l .args .b) (l .loop .t) (entry l .args .t4) - l .loop .t))
-    × (l .loop .t + s .smaller .result ≤ job s .before .before .next-after .result)
+    × (l .loop .t + s .smaller .result ≤ release (job s .before))
 ran s =
+    let p = job s .before in
     let l = turn (job s) in
-    let w = job s .before .before in
-    let e : s .smaller .result ≡ min (need (job s)) (w .next-after .result - l .loop .t) = s .smaller .ensures in
-    (e ∙ ap (λ m. min (need (job s)) (m - l .loop .t)) (w .next-after .ensures), omega (arith, coming w))
+    let e : s .smaller .result ≡ min (need (job s)) (release p - l .loop .t) = s .smaller .ensures in
+    (omega (arith, e, p .before .before .before .next-after .ensures), omega (arith, ahead p))
 
 -- where it has ended, the next job of its row is the first; where not, it is still
 kept : (c : tie.Joined2 Inv-loop μ-loop) → let o = job (c .before) in let l = turn o in
@@ -131,20 +123,12 @@ kept c =
     let o = job s in
     let l = turn o in
     let k = l .loop .inv .1 .0 in
-    let z = entry l in
     let v = need o - s .smaller .result in
-    let row = set (getD (l .loop .left) (place o) []) (number o) v in
     let r : place o < length (l .loop .left) = omega (arith, o .if1 .taken, l .loop .inv .0 .rows) in
-    let h : place o < length (l .loop .heads) = omega (arith, ap length (k .heads), length-map (l .loop .left) firstLeft) in
     let q = chosen-needs (l .loop .t) (jobsAt l) (chosen o .0) in
     ⊎-elim
-    (λ w.
-    subst₂ (Kept (z .args .rows) (z .args .t4) (set (l .loop .left) (place o) row)) (sym (w .4)) (sym (w .5))
-    (kept-changed k (place o) (number o) row q (w .2 .ensures ∙ ap firstLeft (getD-set-same (l .loop .left) (place o) row [] r))
-    (w .3 .ensures ∙ ap (releaseOf (getD (z .args .t4) (place o) 0)) (getD-set-same (l .loop .heads) (place o) _ 0 h))))
-    (λ w.
-    subst₂ (Kept (z .args .rows) (z .args .t4) (set (l .loop .left) (place o) row)) (sym (w .1)) (sym (w .2))
-    (kept-same k (place o) v q (omega (arith, ran s .0, w .0 .left))))
+    (λ w. kept-changed k (place o) (number o) v q r (w .2 .ensures) (w .3 .ensures) (w .4) (w .5))
+    (λ w. kept-same k (place o) (number o) v q refl (omega (arith, ran s .0, w .0 .left)) (w .1) (w .2))
     (c .if2 .came)
 
 abbrev after : tie.After-slice-known2 Inv-loop μ-loop → tie.Joined2 Inv-loop μ-loop
@@ -154,54 +138,50 @@ abbrev run : tie.After-slice-known2 Inv-loop μ-loop → tie.After-smaller Inv-l
 run c = after c .before
 
 -- no job is chosen
-idle : (c : tie.Else1 Inv-loop μ-loop) → let l = c .before .before .before .before in choose (l .loop .t) (jobsAt l) ≡ none
+idle : (c : tie.Else1 Inv-loop μ-loop) → let l = within (c .before) .before in choose (l .loop .t) (jobsAt l) ≡ none
 idle c =
-    let l = c .before .before .before .before in
-    let z = entry l in
-    none-chosen (l .loop .inv .0) (streams-sized z) (lengths-sized z) (shorts z) (omega (arith, soon (c .before .before .before)))
-    (l .loop .inv .1 .0)
-    (c .before .choose-place .ensures) (c .if1 .left)
+    let w = within (c .before) in
+    let i = w .before .loop .inv in
+    none-chosen (i .0) (w .loop-test .taken) (i .1 .0) (c .before .choose-place .ensures) (c .if1 .left)
 
 first-jobs-requires : tie.Need-first-jobs-requires Inv-loop μ-loop
-first-jobs-requires c κs = (c .before .pre .1 .0, c .before .pre .1 .1 .needs)
+first-jobs-requires c κs = needs-padded (c .before .before)
 
 first-releases-requires : tie.Need-first-releases-requires Inv-loop μ-loop
 first-releases-requires c κs =
-    let z = c .before .before in
-    let spare = heads-spare (z .args .rows) (z .args .needs) (z .pre .1 .1 .needs) in
-    (shorts z, (z .pre .1 .0, subst (λ hs. All (λ h. h ≡ 16) (drop (z .args .rows) hs)) (sym (c .first-jobs .ensures)) spare))
+    let f = c .before .before in
+    let z = f .before .before .before in
+    let padded = heads-padded (z .args .rows) (z .args .needs) (needs-padded z) in
+    ((given z .lengths, lengths-short (given z)), subst (Padded (z .args .rows) 16) (sym (f .first-jobs .ensures)) padded)
 
 blank-pen-requires : tie.Need-blank-pen-requires Inv-loop μ-loop
 blank-pen-requires c κs = search needs
 
 loop-holds : tie.Need-loop-holds Inv-loop μ-loop
 loop-holds c =
-    let z = c .before .before .before .before in
-    let a = z .args in
-    let s = begin (a .plan .now) (z .pre .0 .0) (rows-sized z .0) (rows-sized z .1) in (
-      subst (State (a .b) 0 (a .t3) (a .t4) (total z) (a .plan .now) (a .plan .now) (a .needs)) (sym (c .blank-pen .ensures)) s,
-      (
-        record {
-          heads = c .before .before .first-jobs .ensures;
-          releases = c .before .first-releases .ensures;
-          spare = z .pre .1 .1 .needs;
-        },
-        λ h. absurd (omega arith),
-      ),
+    let f = c .before .before .before .before in
+    let z = f .before .before .before in
+    let r = c .before .first-releases .ensures in (
+      begin (z .args .plan .now) (z .pre .0 .0) (given z) (rows-sized z .0) (rows-sized z .1) (c .blank-pen .ensures),
+      (record { heads = f .first-jobs .ensures; releases = r; spare = z .pre .1 .1 .needs }, λ h. absurd (omega arith)),
     )
 
 next-after-requires : tie.Need-next-after-requires Inv-loop μ-loop
 next-after-requires c κs =
-    let z = entry (c .before) in (
-      (c .loop-test .taken, (z .pre .0 .0 .short, (z .pre .0 .0 .each, c .before .loop .inv .1 .1))),
-      (z .pre .1 .0, z .pre .1 .1 .lengths),
+    let w = c .before in
+    let z = entry (w .before) in (
+      (w .loop-test .taken, (z .pre .0 .0 .short, (z .pre .0 .0 .each, w .before .loop .inv .1 .1))),
+      (given z .lengths, (z .pre .1 .0, z .pre .1 .1 .lengths)),
     )
 
 choose-place-requires : tie.Need-choose-place-requires Inv-loop μ-loop
 choose-place-requires c κs =
-    let l = c .before .before in
-    let z = entry l in
-    ((soon (c .before), shorts z), (z .pre .1 .0, kept-never (l .loop .inv .1 .0)))
+    let w = c .before .before .before .before in
+    let l = w .before in
+    let g = given (entry l) in (
+      (omega (arith, w .loop-test .taken, g .short), (g .lengths, lengths-short g)),
+      kept-padded (l .loop .inv .1 .0) (g .lengths) (l .loop .inv .0 .rows) (entry l .pre .1 .0),
+    )
 
 mul-j : tie.Need-mul-j Inv-loop μ-loop
 mul-j c = search needs
@@ -222,7 +202,7 @@ index-2-need : tie.Need-index-2-need Inv-loop μ-loop
 index-2-need c = chosen c .1
 
 sub-smaller : tie.Need-sub-smaller Inv-loop μ-loop
-sub-smaller c = omega (arith, coming (c .before .before .before))
+sub-smaller c = omega (arith, ahead (c .before .before))
 
 smaller-requires : tie.Need-smaller-requires Inv-loop μ-loop
 smaller-requires c κs = search needs
@@ -272,9 +252,10 @@ array-read-release-of-2 c = search needs
 release-of-requires : tie.Need-release-of-requires Inv-loop μ-loop
 release-of-requires c κs =
     let o = job (c .before .before .before) in
-    let z = entry (turn o) in
-    let h : place o < length (z .args .t4) = omega (arith, o .if1 .taken, lengths-sized z) in
-    all-at (λ T. T ≤ 1024000) (z .args .t4) 0 (shorts z) (place o) h
+    let g = given (entry (turn o)) in
+    let Ts = entry (turn o) .args .t4 in
+    let h : place o < length Ts = omega (arith, o .if1 .taken, g .lengths) in
+    all-at (λ T. T ≤ 1024000) Ts 0 (lengths-short g) (place o) h
 
 mul-releases : tie.Need-mul-releases Inv-loop μ-loop
 mul-releases c = search needs
@@ -295,36 +276,33 @@ extend-run-requires : tie.Need-extend-run-requires Inv-loop μ-loop
 extend-run-requires c κs =
     let s = c .before .before in
     let l = turn (job s) in
-    (spare l .1, (l .loop .inv .0 .ended, omega (arith, ran s .1, coming (job s .before .before), entry l .pre .0 .0 .short)))
+    (spare l .1, (l .loop .inv .0 .ended, omega (arith, ran s .1, ahead (job s .before), entry l .pre .0 .0 .short)))
 
 add-t : tie.Need-add-t Inv-loop μ-loop
 add-t c =
     let s = run c in
     let l = turn (job s) in
-    record { fits = omega (arith, ran s .1, coming (job s .before .before), entry l .pre .0 .0 .short) }
+    record { fits = omega (arith, ran s .1, ahead (job s .before), entry l .pre .0 .0 .short) }
 
 loop-less : tie.Need-loop-less Inv-loop μ-loop
 loop-less c =
     let s = run c in
     let o = job s in
-    let l = turn o in
-    let z = entry l in
-    job-less (l .loop .inv .0) (streams-sized z) (lengths-sized z) (o .before .before .before .loop-test .taken) (z .pre .0 .0 .each)
-    (place o) (number o) (s .smaller .result) (ran s .0) (o .if1 .taken) (chosen o .1) (chosen o .0)
+    job-less (turn o .loop .inv .0) (within (o .before) .loop-test .taken) (place o) (number o) (s .smaller .result) (ran s .0)
+    (o .if1 .taken) (chosen o .1) (chosen o .0)
 
 loop-again : tie.Need-loop-again Inv-loop μ-loop
 loop-again c =
     let s = run c in
     let o = job s in
     let l = turn o in
-    let z = entry l in
-    let a = z .args in
-    let m = o .before .before .next-after .ensures in
+    let a = entry l .args in
+    let m = o .before .before .before .before .next-after .ensures in
     let t = l .loop .t in
     let n = s .smaller .result in
     let wrote = c .before .before .extend-run .ensures in (
-      job-step (l .loop .inv .0) (streams-sized z) (lengths-sized z) (o .before .before .before .loop-test .taken) (z .pre .0 .0 .each)
-          (place o) (number o) n (ran s .0) (o .if1 .taken) (chosen o .1) (chosen o .0) (wrote .1) (wrote .0),
+      job-step (l .loop .inv .0) (within (o .before) .loop-test .taken) (place o) (number o) n (ran s .0) (o .if1 .taken)
+          (chosen o .1) (chosen o .0) (wrote .1) (wrote .0),
       (
         kept (after c),
         λ h. m ∙ next-same (a .b) t (t + n) (a .t4) (omega arith) (omega (arith, h, m)),
@@ -333,21 +311,14 @@ loop-again c =
 
 loop-less-2 : tie.Need-loop-less-2 Inv-loop μ-loop
 loop-less-2 c =
-    let w = c .before .before in
-    let l = w .before .before in
-    let z = entry l in
-    subst (λ m. turns (z .args .b) m (jobsAt l) < turns (z .args .b) (l .loop .t) (jobsAt l)) (sym (w .next-after .ensures))
-    (idle-less (l .loop .inv .0) (streams-sized z) (lengths-sized z) (w .before .loop-test .taken) (z .pre .0 .0 .each))
+    let w = within (c .before) in
+    idle-less (w .before .loop .inv .0) (w .loop-test .taken) (c .before .before .before .before .next-after .ensures)
 
 loop-again-2 : tie.Need-loop-again-2 Inv-loop μ-loop
 loop-again-2 c =
-    let w = c .before .before in
-    let l = w .before .before in
-    let z = entry l in
-    let a = z .args in (
-      subst (λ m. State (a .b) m (a .t3) (a .t4) (total z) (a .plan .now) (l .loop .plan) (l .loop .left) (l .loop .pen))
-          (sym (w .next-after .ensures))
-          (idle-step (l .loop .inv .0) (streams-sized z) (lengths-sized z) (w .before .loop-test .taken) (z .pre .0 .0 .each) (idle c)),
+    let w = within (c .before) in
+    let l = w .before in (
+      idle-step (l .loop .inv .0) (w .loop-test .taken) (c .before .before .before .before .next-after .ensures) (idle c),
       (l .loop .inv .1 .0, λ h. absurd (omega arith)),
     )
 
