@@ -76,7 +76,7 @@ fn read_number(field: &[u8]) -> Number
     let mut value: u64 = 0;
     for i in 0..field.len() {
         let digit = field[i] as u32;
-        if !model::is_within(DIGIT_ZERO, DIGIT_NINE, digit) {
+        if !ranges::is_within(DIGIT_ZERO, DIGIT_NINE, digit) {
             return none;
         }
         value = 10 * value + (digit - DIGIT_ZERO) as u64;

@@ -100,7 +100,7 @@ fn empty_table(interval: u32) -> Table
 pub fn open(units: u32) -> Opening
     ensures { λ r. ⌜ (openNumber (r .answer) ≡ openAnswer units) × (r .table ≡ cond (eqb (openAnswer units) 0) (opened units) noTable) ⌝ }
 {
-    if !model::is_within(1, 1000, units) {
+    if !ranges::is_within(1, 1000, units) {
         return Opening {
             answer: OpenAnswer::UnitsOutside,
             table: empty_table(0),
@@ -164,7 +164,7 @@ fn first_refusal(interval: Slots, s: Survey, q: Request) -> OfferAnswer
     if s.taken {
         return OfferAnswer::StreamHeld;
     }
-    let fields = q.check_fields(interval);
+    let fields = requests::check_fields(q, interval);
     if !is_accepted(fields) {
         return fields;
     }

@@ -64,7 +64,7 @@ pub fn job_length(interval: Slots, e: Entry) -> Slots
 {
     let kind = e.kind;
     if kind == 1 {
-        return Slots(model::part_of(interval.0, e.parts));
+        return Slots(ranges::part_of(interval.0, e.parts));
     }
     interval
 }

@@ -1,0 +1,44 @@
+// Tests and quotients of numbers of 32 bits, for any numbers.
+ghost use mathlib.Core.Bool.{_&&_};
+ghost use mathlib.Core.Path.{_≡_};
+ghost use Prim.Native.Nat.{_/_, _%_};
+ghost use lib.Dec.{eqb};
+ghost use Rattle.lists.specs.Lists.{within};
+
+pub fn is_within(least: u32, largest: u32, x: u32) -> bool
+    ensures { λ r. ⌜ r ≡ within least largest x ⌝ }
+{
+    if x < least {
+        return false;
+    }
+    x <= largest
+}
+
+// One m-th of n, and 0 where m is 0.
+pub fn part_of(n: u32, m: u32) -> u32
+    ensures { λ r. ⌜ r ≡ n / m ⌝ }
+{
+    if m == 0 {
+        return 0;
+    }
+    n / m
+}
+
+// Of 0 only 0 is a multiple.
+pub fn is_multiple(n: u32, m: u32) -> bool
+    ensures { λ r. ⌜ r ≡ eqb (n % m) 0 ⌝ }
+{
+    if m == 0 {
+        return n == 0;
+    }
+    n % m == 0
+}
+
+pub fn both(a: bool, b: bool) -> bool
+    ensures { λ r. ⌜ r ≡ (a && b) ⌝ }
+{
+    if a {
+        return b;
+    }
+    false
+}
