@@ -1,12 +1,14 @@
 -- A withdrawal's and an enquiry's answer as a program finds it, by the place of the stream. Assumes nothing.
-use mathlib.Core.Path.{_≡_, refl, sym, ap, subst, _∙_}
+use mathlib.Core.Path.{_≡_, refl, sym, ap, _∙_}
+use mathlib.Core.Logic.{inl, inr}
 use mathlib.Core.Bool.{Bool, true, false, cond, not}
 use mathlib.Core.List.{[], _∷_}
 use Prim.Native.Nat.{ℕ, _≤_, _<_}
 use native.Mathlib.Omega.{arith}
 use lib.Dec.{ltb}
-use lib.ListN.{length, getD, set}
-use borrow.Author.Tests.{lt-ltb, le-ltb}
+use lib.ListN.{length, getD}
+use borrow.Author.Tests.{ltb-false}
+use Rattle.lists.specs.Tests.{either}
 use Rattle.lists.specs.First.{firstOf}
 use Rattle.model.specs.Requests.{check, refusal}
 use Rattle.model.specs.Entries.{freeEntry}
@@ -16,6 +18,8 @@ use Rattle.rules.specs.Calls.{places, holds, heldAnswer, withdrawn}
 use Rattle.rules.specs.Reading.{enquired}
 use Rattle.rules.specs.WellFormed.{WellFormed}
 use Rattle.survey.specs.Search.{isHeldAs, place-held, place-entry, place-none, place-freed}
+use Rattle.advance.specs.Next.{withEntries}
+use Rattle.planner.specs.Changes.{putIn, put-past}
 
 -- p is the stream's place
 module _ (t : Table) (w : WellFormed t) (s : ℕ) {p : ℕ} (e : p ≡ firstOf (isHeldAs s) (t .entries)) where
@@ -30,15 +34,13 @@ module _ (t : Table) (w : WellFormed t) (s : ℕ) {p : ℕ} (e : p ≡ firstOf (
       by true = refl
       by false = refl
 
-  pub held-freed : p < places → record { interval = t .interval; entries = set (t .entries) p freeEntry } ≡ withdrawn t s
+  pub held-freed : putIn t p freeEntry ≡ withdrawn t s
   unfolding withdrawn
-  held-freed h =
-      let q : holds t s ≡ true = sym held-place ∙ lt-ltb p places h in
-      rw (q, e) (ap (λ es. record { interval = t .interval; entries = es }) (place-freed t s (w .once) q))
-
-  pub none-freed : places ≤ p → t ≡ withdrawn t s
-  unfolding withdrawn
-  none-freed h = (let q : holds t s ≡ false = sym held-place ∙ le-ltb p places h in rw q refl)
+  held-freed =
+      elim (either (holds t s)) [
+        | inl q ↦ rw (q, e) (ap (withEntries t) (place-freed t s (w .once) q))
+        | inr q ↦ rw q (put-past t p freeEntry (omega (arith, w .size, ltb-false p places (held-place ∙ q))))
+      ]
 
   pub held-entry : (d : Entry) → p < places → getD (t .entries) p d ≡ enquired t s
   held-entry d h = ap (λ n. getD (t .entries) n d) e ∙ place-entry s d (t .entries) (omega (arith, w .size))

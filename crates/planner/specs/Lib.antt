@@ -1,3 +1,4 @@
 pub mod Numbers
+pub mod Changes
 pub mod Offer
 pub mod Held

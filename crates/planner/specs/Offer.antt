@@ -15,7 +15,7 @@ use Rattle.lists.specs.Sums.{sum-keep-le}
 use Rattle.lists.specs.First.{firstOf}
 use Rattle.model.specs.Requests.{Check, check, refusal, streamInRange, fieldChecks}
 use Rattle.model.specs.Answers.{fieldsAnswer}
-use Rattle.model.specs.Entries.{isHeld, entryOf}
+use Rattle.model.specs.Entries.{freeEntry, isHeld, entryOf}
 use Rattle.model.specs.declared.Entry.{Entry}
 use Rattle.model.specs.declared.Request.{Request}
 use Rattle.model.specs.declared.Table.{Table}
@@ -29,8 +29,10 @@ use Rattle.laws.specs.Offers.{offer-refused, offer-passed}
 use Rattle.laws.specs.Places.{Tidy, formed-tidy}
 use Rattle.ahead.specs.Formed.{passed-together, placed-tidy, placed-ahead}
 use Rattle.ahead.specs.Even.{evenly, even-ahead}
+use Rattle.advance.specs.Next.{withEntries}
 use Rattle.survey.specs.Needed.{evenNeed, needs-places}
 use Rattle.survey.specs.Search.{isFree, place-full, place-taken}
+use Rattle.planner.specs.Changes.{putIn, put-past}
 
 -- one list of checks, then another
 refusal-append : {m : ℕ} (cs ds : List Check) → Numbered m cs → refusal (cs ++ ds) ≡ cond (eqb (refusal cs) 0) (refusal ds) (refusal cs)
@@ -51,7 +53,7 @@ but-last held full B q =
 
 -- the table with the request in a free place
 abbrev pub withRequest : Table → Request → Table
-withRequest t q = record { interval = t .interval; entries = placed (entryOf q) (t .entries) }
+withRequest t q = withEntries t (placed (entryOf q) (t .entries))
 
 -- what one pass over the places has found: whether the stream is held, the first free place, what an even share takes of an interval
 module _ (t : Table) (w : WellFormed t) (q : Request) {f : ℕ} (e : f ≡ firstOf isFree (t .entries)) where
@@ -63,18 +65,30 @@ module _ (t : Table) (w : WellFormed t) (q : Request) {f : ℕ} (e : f ≡ first
       ≡ refusal (offerChecksBut (holds t (q .stream)) (isFull t q) (t .interval .0) q)
   surveyed-checks h = ap₂ (λ b c. refusal (offerChecksBut b c (t .interval .0) q)) h surveyed-full
 
-  pub surveyed-place : set (t .entries) f (entryOf q) ≡ placed (entryOf q) (t .entries)
-  surveyed-place = ap (λ n. set (t .entries) n (entryOf q)) e ∙ place-taken (entryOf q) (t .entries)
+  pub surveyed-place : {x : Entry} → x ≡ entryOf q → putIn t f x ≡ withRequest t q
+  surveyed-place h =
+      ap (putIn t f) h ∙ ap (withEntries t) (ap (λ n. set (t .entries) n (entryOf q)) e ∙ place-taken (entryOf q) (t .entries))
+
+-- refused, an offer puts nothing in the table
+module _ (t : Table) (w : WellFormed t) (q : Request) where
+  nothing-put : offerAnswer t q ≢ 0 → putIn t places freeEntry ≡ offered t q
+  nothing-put h = put-past t places freeEntry (omega (arith, w .size)) ∙ sym (refused-offer t q h)
+
+  pub outside-answer : streamInRange (q .stream) ≡ false → (10 ≡ offerAnswer t q) × (putIn t places freeEntry ≡ offered t q)
+  unfolding offerAnswer refusal
+  outside-answer h =
+      let e : 10 ≡ offerAnswer t q = rw h in
+      (e, nothing-put (λ z. absurd (omega (arith, e, z))))
 
 -- a is what the other checks answer
 module _ (t : Table) (w : WellFormed t) (q : Request) {a : ℕ}
     (r : a ≡ refusal (offerChecksBut (holds t (q .stream)) (isFull t q) (t .interval .0) q))
   where
-    pub refused-answer : eqb a 0 ≡ false → (a ≡ offerAnswer t q) × (t ≡ offered t q)
+    pub refused-answer : eqb a 0 ≡ false → (a ≡ offerAnswer t q) × (putIn t places freeEntry ≡ offered t q)
     refused-answer h =
         let n : a ≢ 0 = eqb-false a 0 h in
         let e : a ≡ offerAnswer t q = r ∙ sym (offer-refused t q (λ z. n (r ∙ z))) in
-        (e, sym (refused-offer t q (λ z. n (e ∙ z))))
+        (e, nothing-put t w q (λ z. n (e ∙ z)))
 
     module _ (h : eqb a 0 ≡ true) where
       none : refusal (offerChecksBut (holds t (q .stream)) (isFull t q) (t .interval .0) q) ≡ 0
@@ -111,7 +125,7 @@ module _ (t : Table) (w : WellFormed t) (q : Request) {a : ℕ}
           sym (placed-ahead t w q none ∙ even-ahead (t .interval .0) (entryOf q ∷ es) (passed-together t w q none) enough)
 
       pub no-time : {b : Bool} → b ≡ fitsAhead (t .interval .0) (heldOf (withRequest t q)) → b ≡ false
-          → (17 ≡ offerAnswer t q) × (t ≡ offered t q)
+          → (17 ≡ offerAnswer t q) × (putIn t places freeEntry ≡ offered t q)
       no-time e k =
           let z : offerAnswer t q ≡ 17 = offer-passed t q none ∙ ap (λ (b : Bool). cond (not b) 17 0) (ahead e ∙ k) in
-          (sym z, sym (refused-offer t q (λ y. absurd (omega arith))))
+          (sym z, nothing-put t w q (λ y. absurd (omega arith)))

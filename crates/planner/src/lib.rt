@@ -1,24 +1,26 @@
 // The planner's calls: document 01, "Where each refusal is checked" and "Reading, lending, printing". A call takes the table by value
-// and gives back the table after it; refused, the same table. Each contract is an equation with the definitions that the histories of
-// the guarantee are made of.
+// and gives back the table after it; refused, the same table. For a caller that changes its table in its place there is the same call
+// without the table after it: it gives back what is to be put there. Each contract is an equation with the definitions that the histories
+// of the guarantee are made of.
 ghost use mathlib.Core.Bool.{cond};
 ghost use mathlib.Core.Path.{_≡_};
-ghost use lib.Dec.{eqb, leb, ltb};
-ghost use Rattle.model.specs.Requests.{refusal};
+ghost use lib.Dec.{eqb, ltb};
 ghost use Rattle.model.specs.Answers.{offerNumber};
-ghost use Rattle.model.specs.Entries.{entryOf};
+ghost use Rattle.model.specs.Entries.{freeEntry};
 ghost use Rattle.rules.specs.Calls.{places, openAnswer, opened, offerAnswer, offered, heldAnswer, withdrawn, beacon};
 ghost use Rattle.rules.specs.Reading.{enquired};
 ghost use Rattle.rules.specs.WellFormed.{WellFormed};
-ghost use Rattle.laws.specs.Offers.{offerChecksBut};
+ghost use Rattle.planner.specs.Changes.{putIn, Moves};
 ghost use Rattle.planner.specs.Numbers.{openNumber, heldNumber, beaconNumber, request, noneHeld, noTable};
+
+pub mod checks; // checks.rt: an offer's checks but for looking ahead, and the entry that it becomes
+
 use model::Entry;
-use model::Intervals;
 use model::OfferAnswer;
 use model::Request;
 use model::Slots;
 use model::Table;
-use survey::Survey;
+use share::Shares;
 
 pub enum OpenAnswer {
     Opened,
@@ -96,6 +98,14 @@ fn empty_table(interval: u32) -> Table
     }
 }
 
+// The table of so many units, where an opening with them succeeds.
+pub fn opened_table(units: u32) -> Table
+    requires { ⌜ openAnswer units ≡ 0 ⌝ }
+    ensures { λ r. ⌜ r ≡ opened units ⌝ }
+{
+    empty_table(1024 * units)
+}
+
 // Refused, there is no table: what stands in its place has 0 slots, and no call is to be made on it.
 pub fn open(units: u32) -> Opening
     ensures { λ r. ⌜ (openNumber (r .answer) ≡ openAnswer units) × (r .table ≡ cond (eqb (openAnswer units) 0) (opened units) noTable) ⌝ }
@@ -108,7 +118,7 @@ pub fn open(units: u32) -> Opening
     }
     Opening {
         answer: OpenAnswer::Opened,
-        table: empty_table(1024 * units),
+        table: opened_table(units),
     }
 }
 
@@ -118,60 +128,69 @@ pub struct Offering {
     pub table: Table,
 }
 
-fn is_accepted(answer: OfferAnswer) -> bool
-    ensures { λ r. ⌜ r ≡ eqb (offerNumber answer) 0 ⌝ }
+// An offer's answer, and what it puts in the table: its entry, at a place. Place 32 stands for none.
+pub struct Decision {
+    pub answer: OfferAnswer,
+    pub place: usize,
+    pub entry: Entry,
+}
+
+// Refused, an offer puts nothing in the table.
+fn refused(answer: OfferAnswer) -> Decision
+    ensures { λ r. ⌜ r ≡ record { answer = answer; place = places; entry = freeEntry } ⌝ }
 {
-    match answer {
-        OfferAnswer::Accepted => true,
-        _ => false,
+    let entry = model::free_entry();
+    Decision {
+        answer,
+        place: 32,
+        entry,
     }
 }
 
-// What a request becomes on acceptance.
-fn entry_of(q: Request) -> Entry
-    ensures { λ r. ⌜ r ≡ entryOf q ⌝ }
-{
-    let kind = q.kind;
-    let mut e = Entry {
-        stream: q.stream,
-        kind,
-        parts: q.period,
-        period: Intervals(0),
-        min: Slots(q.min),
-        max: Slots(q.max),
-        life: Intervals(q.life),
-        life_left: Intervals(q.life),
-        owed: Slots(0),
-        given: Slots(0),
-        left: Intervals(0),
-    };
-    if kind != 1 {
-        e.parts = 0;
-        e.period.0 = q.period;
-        e.owed.0 = q.min;
-        e.left.0 = q.period;
-    }
-    e
-}
-
-// The first of refusals 10 to 16 that applies, or Accepted where none does.
-fn first_refusal(interval: Slots, s: Survey, q: Request) -> OfferAnswer
-    ensures { λ r. ⌜ offerNumber r ≡ refusal (offerChecksBut (s .taken) (leb places (s .free)) (interval .0) q) ⌝ }
+// The table is read and not changed: the caller puts the entry in its own. A copy with the entry is made only for looking ahead.
+pub fn decide(t: Table, q: Request) -> Decision
+    requires { ⌜ WellFormed t ⌝ }
+    ensures { λ r. ⌜ (offerNumber (r .answer) ≡ offerAnswer t q) × (putIn t (r .place) (r .entry) ≡ offered t q) ⌝ }
 {
     if !q.stream_in_range() {
-        return OfferAnswer::StreamOutside;
+        return refused(OfferAnswer::StreamOutside);
     }
-    if s.taken {
-        return OfferAnswer::StreamHeld;
+    let s = survey::survey_for(t, q.stream);
+    let interval = t.interval;
+    let answer = checks::first_refusal(interval, s, q);
+    if !checks::is_accepted(answer) {
+        return refused(answer);
     }
-    let fields = requests::check_fields(q, interval);
-    if !is_accepted(fields) {
-        return fields;
+    let e = checks::entry_of(q);
+    let at = s.free;
+    if survey::fits_with(s.needed, e, interval) {
+        return Decision {
+            answer,
+            place: at,
+            entry: e,
+        };
     }
-    if 32 <= s.free {
-        return OfferAnswer::TableFull;
+    let mut new = t;
+    new.entries[at] = e;
+    if !lookahead::fits_ahead(new) {
+        return refused(OfferAnswer::NoTime);
     }
-    OfferAnswer::Accepted
+    Decision {
+        answer,
+        place: at,
+        entry: e,
+    }
+}
+
+// The table with the entry at the place; a place past the last changes nothing.
+fn put_in(t: Table, place: usize, e: Entry) -> Table
+    ensures { λ r. ⌜ r ≡ putIn t place e ⌝ }
+{
+    let mut table = t;
+    if place < 32 {
+        table.entries[place] = e;
+    }
+    table
 }
 
 pub fn offer(
@@ -195,26 +214,11 @@ pub fn offer(
         max,
         life,
     };
-    let s = survey::survey_for(t, stream);
-    let interval = t.interval;
-    let answer = first_refusal(interval, s, q);
-    if !is_accepted(answer) {
-        return Offering { answer, table: t };
-    }
-    let e = entry_of(q);
-    let at = s.free;
-    let mut new = t;
-    new.entries[at] = e;
-    if survey::fits_with(s.needed, e, interval) {
-        return Offering { answer, table: new };
-    }
-    if !lookahead::fits_ahead(new) {
-        return Offering {
-            answer: OfferAnswer::NoTime,
-            table: t,
-        };
-    }
-    Offering { answer, table: new }
+    let d = decide(t, q);
+    let answer = d.answer;
+    let e = d.entry;
+    let table = put_in(t, d.place, e);
+    Offering { answer, table }
 }
 
 // ---- a withdrawal
@@ -233,17 +237,29 @@ fn held_at(at: usize) -> HeldAnswer
     HeldAnswer::NotHeld
 }
 
+// A withdrawal's answer, and the place that becomes free: 32 where none does.
+pub struct Released {
+    pub answer: HeldAnswer,
+    pub place: usize,
+}
+
+pub fn release(t: Table, stream: u32) -> Released
+    requires { ⌜ WellFormed t ⌝ }
+    ensures { λ r. ⌜ (heldNumber (r .answer) ≡ heldAnswer t stream) × (putIn t (r .place) freeEntry ≡ withdrawn t stream) ⌝ }
+{
+    let place = survey::place_of(t, stream);
+    let answer = held_at(place);
+    Released { answer, place }
+}
+
 pub fn withdraw(t: Table, stream: u32) -> Withdrawal
     requires { ⌜ WellFormed t ⌝ }
     ensures { λ r. ⌜ (heldNumber (r .answer) ≡ heldAnswer t stream) × (r .table ≡ withdrawn t stream) ⌝ }
 {
-    let place = survey::place_of(t, stream);
-    let answer = held_at(place);
-    let mut table = t;
-    if place < 32 {
-        let free = model::free_entry();
-        table.entries[place] = free;
-    }
+    let r = release(t, stream);
+    let answer = r.answer;
+    let free = model::free_entry();
+    let table = put_in(t, r.place, free);
     Withdrawal { answer, table }
 }
 
@@ -274,25 +290,75 @@ pub struct Beaconing {
     pub table: Table,
 }
 
-// The plan stands in the first 4 times count words; every later word stays as it was. Refused, every word does.
+// A beacon but for the table after it: what each place gets, and how many places are in use. None is where the table stays as it is.
+pub struct Planned {
+    pub answer: BeaconAnswer,
+    pub count: usize,
+    pub used: usize,
+    pub shares: Shares,
+}
+
+// No record is written, and the table stays.
+fn unplanned(answer: BeaconAnswer) -> Planned
+    ensures { λ r. ⌜ (r .answer ≡ answer) × ((r .count ≡ 0) × (r .used ≡ 0)) ⌝ }
+{
+    let shares = Shares {
+        pieces: [0; 32],
+        extras: [0; 32],
+    };
+    Planned {
+        answer,
+        count: 0,
+        used: 0,
+        shares,
+    }
+}
+
+// The plan stands in the first 4 times count words; every later word stays as it was. Refused, every word does. Where nothing is held
+// there is nothing to plan.
+pub fn plan_interval(t: Table, plan: &mut [u32]) -> Planned
+    requires { ⌜ WellFormed t ⌝ }
+    ensures { λ r. let b = beacon t (now (plan .entry)) in
+        ⌜ (beaconNumber (r .answer) ≡ b .answer) × ((r .count ≡ b .count) × ((now (plan .exit) ≡ b .words)
+        × Moves t (r .used) (r .shares) (b .table))) ⌝ }
+{
+    if plan.len() < 4096 {
+        return unplanned(BeaconAnswer::PlanTooShort);
+    }
+    let q = share::queue_of(t);
+    if q.used == 0 {
+        return unplanned(BeaconAnswer::Planned);
+    }
+    let shares = share::shares_of(t, q);
+    let count = jobs::write_jobs(t, q, shares, plan);
+    Planned {
+        answer: BeaconAnswer::Planned,
+        count,
+        used: q.used,
+        shares,
+    }
+}
+
+// The plan as above, and the table an interval on.
 pub fn beacon(t: Table, plan: &mut [u32]) -> Beaconing
     requires { ⌜ WellFormed t ⌝ }
     ensures { λ r. let b = beacon t (now (plan .entry)) in
         ⌜ (beaconNumber (r .answer) ≡ b .answer) × ((r .count ≡ b .count) × ((r .table ≡ b .table) × (now (plan .exit) ≡ b .words))) ⌝ }
 {
-    if plan.len() < 4096 {
+    let p = plan_interval(t, plan);
+    let answer = p.answer;
+    let count = p.count;
+    if p.used == 0 {
         return Beaconing {
-            answer: BeaconAnswer::PlanTooShort,
-            count: 0,
+            answer,
+            count,
             table: t,
         };
     }
-    let q = share::queue_of(t);
-    let s = share::shares_of(t, q);
-    let count = jobs::write_jobs(t, q, s, plan);
-    let table = advance::advance(t, q.used, s);
+    let shares = p.shares;
+    let table = advance::advance(t, p.used, shares);
     Beaconing {
-        answer: BeaconAnswer::Planned,
+        answer,
         count,
         table,
     }

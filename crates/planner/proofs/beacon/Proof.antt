@@ -1,63 +1,46 @@
-use mathlib.Core.Path.{_≡_, ap, _∙_}
-use mathlib.Core.Bool.{true}
-use mathlib.Core.List.{_++_}
-use Prim.Native.Nat.{_*_}
-use lib.Dec.{ltb}
-use lib.ListN.{length, drop}
+use mathlib.Core.Path.{_≡_, sym, _∙_}
+use native.Mathlib.Omega.{arith}
 use denote.Ref.{now}
-use borrow.Author.Tests.{lt-ltb, le-ltb}
-use Rattle.rules.specs.Calls.{recordWords, mostRecords, wordsOf, planOf, beacon}
-use Rattle.laws.specs.Places.{formed-tidy}
+use Rattle.rules.specs.Calls.{advanced, beacon}
+use Rattle.laws.specs.Places.{Tidy}
+use Rattle.share.specs.Queues.{Used}
+use Rattle.share.specs.Shares.{sharesOf}
 use borrow.Author.Needs.{needs}
 use Rattle.planner.proofs.beacon.Statement.{statement}
 use Rattle.planner.proofs.beacon.Tie as tie
 
-returns : tie.Need-returns
-unfolding beacon
-returns c =
-    let q : ltb (length (now (c .before .before .args .plan))) (recordWords * mostRecords) ≡ true = lt-ltb _ _ (c .if1 .taken) in
-    (rw q, (rw q, (rw q, rw q)))
-
-queue-of-requires : tie.Need-queue-of-requires
-queue-of-requires c κs = formed-tidy (c .before .before .pre)
-
-shares-of-requires : tie.Need-shares-of-requires
-shares-of-requires c κs = (formed-tidy (c .before .before .before .pre), c .queue-of .ensures)
-
-write-jobs-requires : tie.Need-write-jobs-requires
-write-jobs-requires c κs =
-    let s = c .before in
-    let q = s .before in
-    ((formed-tidy (q .before .before .before .pre), q .queue-of .ensures), (s .shares-of .ensures, search needs))
-
-advance-requires : tie.Need-advance-requires
-advance-requires c κs =
-    let s = c .before .before .before .before in
-    let q = s .before in
-    ((formed-tidy (q .before .before .before .pre), q .queue-of .ensures .used), s .shares-of .ensures)
+plan-interval-requires : tie.Need-plan-interval-requires
+plan-interval-requires c κs = search needs
 
 same-length : tie.Need-same-length
 same-length c = search needs
 
+returns : tie.Need-returns
+returns c =
+    let e = c .before .before .before .before .plan-interval .ensures in
+    (e .0, (e .1 .0, (sym (e .1 .1 .1 .stays (c .if1 .taken)), e .1 .1 .0)))
+
+-- a place is in use
+moved : (c : tie.Else1) → (let p = c .before .before .before .before in let t = p .before .before .before .args .t in
+    (Tidy t × Used (p .plan-interval .result .used) t)
+    × ((p .plan-interval .result .shares ≡ sharesOf t) × (beacon t (now (p .before .before .before .args .plan)) .table ≡ advanced t)))
+moved c =
+    let h = c .if1 .left in
+    c .before .before .before .before .plan-interval .ensures .1 .1 .1 .moves (omega arith)
+
+advance-requires : tie.Need-advance-requires
+advance-requires c κs = (let m = moved (c .before) in (m .0, m .1 .0))
+
+same-length-2 : tie.Need-same-length-2
+same-length-2 c = search needs
+
 returns-2 : tie.Need-returns-2
-unfolding beacon
 returns-2 c =
-    let j = c .before .before .before in
-    let s = j .before .before .before .before in
-    let e = j .write-jobs .ensures in
-    let q = le-ltb _ _ (s .if1 .left) in
-    let a = s .before .before .args in
-    let t = a .t in
-    (rw q, (rw q (e .0), (rw q (c .advance .ensures), rw q (e .1 ∙ ap (λ n. wordsOf (planOf t) ++ drop (4 * n) (now (a .plan))) (e .0)))))
+    let o = c .before .before in
+    let e = o .before .before .before .before .plan-interval .ensures in
+    (e .0, (e .1 .0, (c .advance .ensures ∙ sym (moved o .1 .1), e .1 .1 .0)))
 
 pub beacon-spec : {M : Type 1} → statement M
 beacon-spec =
     tie.close
-    (tie.spec
-    returns
-    queue-of-requires
-    shares-of-requires
-    write-jobs-requires
-    advance-requires
-    same-length
-    returns-2)
+    (tie.spec plan-interval-requires same-length returns advance-requires same-length-2 returns-2)

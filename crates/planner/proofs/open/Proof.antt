@@ -1,10 +1,9 @@
-use mathlib.Core.Path.{_≡_, sym, _∙_}
+use mathlib.Core.Path.{_≡_, refl, sym, _∙_}
 use mathlib.Core.Bool.{false}
 use borrow.Author.Tests.{not-true, not-false}
 use Rattle.lists.specs.Lists.{within}
-use Rattle.lists.specs.Tests.{within-both}
 use Rattle.model.specs.Requests.{refusal}
-use Rattle.rules.specs.Calls.{openAnswer, opened}
+use Rattle.rules.specs.Calls.{openAnswer}
 use borrow.Author.Needs.{needs}
 use Rattle.planner.proofs.open.Statement.{statement}
 use Rattle.planner.proofs.open.Tie as tie
@@ -22,26 +21,17 @@ returns c =
     let q : within 1 1000 (b .before .before .args .units) ≡ false = sym (b .before .is-within .ensures) ∙ not-true _ (b .if1 .taken) in
     (rw q, rw q (c .empty-table .ensures))
 
-mul-empty-table : tie.Need-mul-empty-table
-mul-empty-table c =
-    search (needs, within-both 1 1000 (c .before .before .args .units) (sym (c .before .is-within .ensures) ∙ not-false _ (c .if1 .left)))
-
-empty-table-requires-2 : tie.Need-empty-table-requires-2
-empty-table-requires-2 c κs = search needs
+opened-table-requires : tie.Need-opened-table-requires
+unfolding openAnswer refusal
+opened-table-requires c κs = rw (sym (c .before .is-within .ensures) ∙ not-false _ (c .if1 .left)) refl
 
 returns-2 : tie.Need-returns-2
-unfolding openAnswer refusal opened
+unfolding openAnswer refusal
 returns-2 c =
     let q = sym (c .before .before .is-within .ensures) ∙ not-false _ (c .before .if1 .left) in
-    (rw q, rw q (c .empty-table2 .ensures))
+    (rw q, rw q (c .opened-table .ensures))
 
 pub open-spec : {M : Type 1} → statement M
 open-spec =
     tie.close
-    (tie.spec
-    is-within-requires
-    empty-table-requires
-    returns
-    mul-empty-table
-    empty-table-requires-2
-    returns-2)
+    (tie.spec is-within-requires empty-table-requires returns opened-table-requires returns-2)

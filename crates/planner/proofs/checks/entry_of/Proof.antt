@@ -1,7 +1,7 @@
 use borrow.Author.Tests.{ne-eqb}
 use Rattle.model.specs.Entries.{entryOf}
-use Rattle.planner.proofs.entry_of.Statement.{statement}
-use Rattle.planner.proofs.entry_of.Tie as tie
+use Rattle.planner.proofs.checks.entry_of.Statement.{statement}
+use Rattle.planner.proofs.checks.entry_of.Tie as tie
 
 returns : tie.Need-returns
 unfolding entryOf

@@ -10,8 +10,8 @@ use Rattle.model.specs.declared.OfferAnswer.{OfferAnswer}
 use Rattle.model.specs.declared.OfferAnswer.the-variants.{Accepted, StreamOutside, StreamHeld, KindUnknown}
 use Rattle.model.specs.declared.OfferAnswer.the-variants.{PeriodOutside, AmountsOutside, LifeOutside, TableFull, NoTime}
 use Rattle.model.proofs.OfferAnswer as T
-use Rattle.planner.proofs.is_accepted.Statement.{statement}
-use Rattle.planner.proofs.is_accepted.Tie as tie
+use Rattle.planner.proofs.checks.is_accepted.Statement.{statement}
+use Rattle.planner.proofs.checks.is_accepted.Tie as tie
 
 enum-told : tie.Need-enum-told
 enum-told c = search needs
