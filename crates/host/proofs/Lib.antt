@@ -1,3 +1,7 @@
+pub mod Entries
 pub mod Lent
+pub mod Looked
 pub mod Number
+pub mod Search
 pub mod Stepped
+pub mod Steps

@@ -1,14 +1,17 @@
 // The calls for a host that lends its table, and for C. Document 01, "Reading, lending, printing": the host lends its table and finds
-// it there as the call leaves it. A lent form is thin: it copies the table, makes the call by value, and stores the table after it.
-// An answer is the document's number. Each contract is an equation over what the host had at entry and has at exit.
+// it there as the call leaves it. An offer and a beacon copy the table, make the call by value, and store the table after it; the other
+// calls read and write the table where it lies. An answer is the document's number. Each contract is an equation over what the host had
+// at entry and has at exit.
 ghost use mathlib.Core.Bool.{cond};
 ghost use mathlib.Core.Path.{_≡_};
 ghost use lib.Dec.{eqb};
 ghost use lib.ListN.{length, take, drop};
+ghost use Rattle.lists.specs.First.{firstOf};
 ghost use Rattle.rules.specs.Calls.{openAnswer, opened, offerAnswer, offered, heldAnswer, withdrawn, beacon};
 ghost use Rattle.rules.specs.Reading.{enquired, windowAnswer, windowPart};
 ghost use Rattle.rules.specs.WellFormed.{WellFormed};
 ghost use Rattle.planner.specs.Numbers.{request};
+ghost use Rattle.survey.specs.Search.{isHeldAs};
 use model::Entry;
 use model::Table;
 
@@ -72,47 +75,18 @@ fn offer_step(
     }
 }
 
-fn withdraw_step(t: Table, stream: u32) -> Answered
-    requires { ⌜ WellFormed t ⌝ }
-    ensures { λ r. ⌜ (r .answer ≡ heldAnswer t stream) × (r .table ≡ withdrawn t stream) ⌝ }
+// ---- a stream's place
+// The place of the stream in the lent table, 32 where it has none. It is looked for where the table lies.
+fn place_in(table: &Table, stream: u32) -> usize
+    ensures { λ r. ⌜ r ≡ firstOf (isHeldAs stream) (now (table .entry) .entries) ⌝ }
 {
-    let w = planner::withdraw(t, stream);
-    let answer = w.answer;
-    let table = w.table;
-    Answered {
-        answer: planner::held_number(answer),
-        table,
+    for i in 0..32 {
+        let e = table.entries[i];
+        if survey::is_held_as(e, stream) {
+            return i;
+        }
     }
-}
-
-// Refused, the table is the one that was there.
-fn open_step(t: Table, units: u32) -> Answered
-    ensures { λ r. ⌜ (r .answer ≡ openAnswer units) × (r .table ≡ cond (eqb (openAnswer units) 0) (opened units) t) ⌝ }
-{
-    let o = planner::open(units);
-    let answer = o.answer;
-    let number = planner::open_number(answer);
-    let mut table = t;
-    if number == 0 {
-        table = o.table;
-    }
-    Answered {
-        answer: number,
-        table,
-    }
-}
-
-fn enquire_step(t: Table, stream: u32) -> Found
-    requires { ⌜ WellFormed t ⌝ }
-    ensures { λ r. ⌜ (r .answer ≡ heldAnswer t stream) × (r .entry ≡ enquired t stream) ⌝ }
-{
-    let q = planner::enquire(t, stream);
-    let answer = q.answer;
-    let entry = q.entry;
-    Found {
-        answer: planner::held_number(answer),
-        entry,
-    }
+    32
 }
 
 // ---- the calls on a lent table
@@ -151,9 +125,13 @@ pub extern "C" fn gelmush_withdraw(table: &mut Table, stream: u32) -> u32
     requires { ⌜ WellFormed (now table) ⌝ }
     ensures { λ r. let t = now (table .entry) in ⌜ (r ≡ heldAnswer t stream) × (now (table .exit) ≡ withdrawn t stream) ⌝ }
 {
-    let step = withdraw_step(*table, stream);
-    *table = step.table;
-    step.answer
+    let at = place_in(table, stream);
+    if at < 32 {
+        let free = model::free_entry();
+        table.entries[at] = free;
+        return 0;
+    }
+    20
 }
 
 // Asks nothing of what lies in the table's place. Refused, it lies there still.
@@ -161,9 +139,11 @@ pub extern "C" fn gelmush_withdraw(table: &mut Table, stream: u32) -> u32
 pub extern "C" fn gelmush_open(table: &mut Table, units: u32) -> u32
     ensures { λ r. let a = openAnswer units in ⌜ (r ≡ a) × (now (table .exit) ≡ cond (eqb a 0) (opened units) (now (table .entry))) ⌝ }
 {
-    let step = open_step(*table, units);
-    *table = step.table;
-    step.answer
+    if model::is_within(1, 1000, units) {
+        *table = planner::empty_table(1024 * units);
+        return 0;
+    }
+    1
 }
 
 #[no_mangle]
@@ -171,7 +151,13 @@ pub extern "C" fn gelmush_enquire(table: &Table, stream: u32) -> Found
     requires { ⌜ WellFormed (now table) ⌝ }
     ensures { λ r. let t = now (table .entry) in ⌜ (r .answer ≡ heldAnswer t stream) × (r .entry ≡ enquired t stream) ⌝ }
 {
-    enquire_step(*table, stream)
+    let found = place_in(table, stream);
+    if found < 32 {
+        let entry = table.entries[found];
+        return Found { answer: 0, entry };
+    }
+    let entry = model::free_entry();
+    Found { answer: 20, entry }
 }
 
 // ---- a window

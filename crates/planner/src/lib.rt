@@ -88,7 +88,7 @@ pub struct Opening {
 }
 
 // No place is held. With 0 slots it stands for no table.
-fn empty_table(interval: u32) -> Table
+pub fn empty_table(interval: u32) -> Table
     ensures { λ r. ⌜ r ≡ noneHeld interval ⌝ }
 {
     let free = model::free_entry();

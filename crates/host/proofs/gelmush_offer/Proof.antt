@@ -39,7 +39,9 @@ use Rattle.rules.specs.WellFormed.{WellFormed}
 use Rattle.planner.specs.Numbers.{request}
 use Rattle.host.specs.declared.Answered.{Answered}
 use Rattle.host.proofs.Lent.{machine, Lent, number, gone}
-use Rattle.host.proofs.Stepped.{Gives, gives, table-stepped}
+use Rattle.host.proofs.Answered as R
+use Rattle.host.proofs.Steps.{Gives, gives}
+use Rattle.host.proofs.Stepped.{table-stepped}
 use Rattle.host.proofs.offer_step as step
 use Rattle.host.proofs.offer_step.Symbol as step-def
 use Rattle.host.proofs.offer_step.Symbol.{name as #host·offer-step}
@@ -126,9 +128,9 @@ module _ {M : Type 1} (𝓤 : URA M) (H : Heap 𝓤) (A : Atoms 𝓤) (at-mem : 
         qed W (‵ (T.the-row .own h (machine h ∷ [])) ∷ raw (fact 𝓤 (WellFormed h)) ∷ []) ∵
         use0 W (‵ (owns numbers (fields n) (spelled n))) had $ move ! (1 ∷ 0 ∷ []) $ fjoin ! $ nothing ! $ join ! $ join ! $ done !
 
-    given : (w : Val) → ent 𝓤 (Step .post to-step w) (mean 𝓤 H A (Gives 𝓤 Done w))
+    given : (w : Val) → ent 𝓤 (Step .post to-step w) (mean 𝓤 H A (Gives 𝓤 R.the-row Done w))
     given w =
-        gives 𝓤 H A W Done w (ensured 𝓤 H A step.ended (step.clauses 𝓤 H A at-mem run) tt (h, fields n) tt)
+        gives 𝓤 H A W R.the-row Done w (ensured 𝓤 H A step.ended (step.clauses 𝓤 H A at-mem run) tt (h, fields n) tt)
         (λ r. exE 𝓤 _ (λ ws. snd∗ 𝓤 (sem 𝓤 H A (lasts step.ended tt (h, fields n) ws)) (fact 𝓤 (Done r))))
 
     -- In the comments on contexts, _n is the cell of the n-th local, or room for it, and …n is what frees it.
