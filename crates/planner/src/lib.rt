@@ -98,6 +98,15 @@ pub fn empty_table(interval: u32) -> Table
     }
 }
 
+pub fn open_answer(units: u32) -> OpenAnswer
+    ensures { λ r. ⌜ openNumber r ≡ openAnswer units ⌝ }
+{
+    if ranges::is_within(1, 1000, units) {
+        return OpenAnswer::Opened;
+    }
+    OpenAnswer::UnitsOutside
+}
+
 // The table of so many units, where an opening with them succeeds.
 pub fn opened_table(units: u32) -> Table
     requires { ⌜ openAnswer units ≡ 0 ⌝ }
@@ -110,16 +119,13 @@ pub fn opened_table(units: u32) -> Table
 pub fn open(units: u32) -> Opening
     ensures { λ r. ⌜ (openNumber (r .answer) ≡ openAnswer units) × (r .table ≡ cond (eqb (openAnswer units) 0) (opened units) noTable) ⌝ }
 {
-    if !ranges::is_within(1, 1000, units) {
-        return Opening {
-            answer: OpenAnswer::UnitsOutside,
-            table: empty_table(0),
-        };
+    let answer = open_answer(units);
+    if open_number(answer) != 0 {
+        let table = empty_table(0);
+        return Opening { answer, table };
     }
-    Opening {
-        answer: OpenAnswer::Opened,
-        table: opened_table(units),
-    }
+    let table = opened_table(units);
+    Opening { answer, table }
 }
 
 // ---- an offer
