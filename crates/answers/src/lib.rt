@@ -100,7 +100,7 @@ fn answer_beacon(s: State, plan: &mut [u32], out: &mut [u8], at: usize) -> Answe
     let answer = b.answer;
     let number = planner::beacon_number(answer);
     let after_call = printing::plain_row(out, at, b"beacon", number);
-    let next = printing::slot_rows(out, after_call, plan, b.count);
+    let next = records::slot_rows(out, after_call, plan, b.count);
     let table = b.table;
     let state = State { ready: true, table };
     Answered { state, at: next }

@@ -16,18 +16,18 @@ fn offers_of_case_1() -> Table
 }
 
 fn cases_1_to_3(plan: &mut [u32]) {
-    shown::line(b"case 1");
+    display::line(b"case 1");
     let t = offers_of_case_1();
     let t = shown::beacon(t, plan);
-    shown::line(b"case 2");
+    display::line(b"case 2");
     let t = shown::beacon(t, plan);
-    shown::line(b"case 3");
+    display::line(b"case 3");
     shown::beacon(t, plan);
 }
 
 // The transfer is of stream 11.
 fn case_4() {
-    shown::line(b"case 4");
+    display::line(b"case 4");
     let t = offers_of_case_1();
     shown::offer(t, 11, 3, 2, 748, 0, 2);
     let t = offers_of_case_1();
@@ -35,7 +35,7 @@ fn case_4() {
 }
 
 fn case_5(plan: &mut [u32]) {
-    shown::line(b"case 5");
+    display::line(b"case 5");
     let t = shown::table_of(1);
     let t = shown::offer(t, 1, 2, 2, 1024, 1024, 2);
     let t = shown::offer(t, 2, 2, 2, 1024, 1024, 2);
@@ -45,16 +45,16 @@ fn case_5(plan: &mut [u32]) {
 }
 
 fn cases_6_to_8() {
-    shown::line(b"case 6");
+    display::line(b"case 6");
     let t = shown::table_of(1);
     let t = shown::offer(t, 1, 1, 2, 512, 512, 1);
     shown::offer(t, 2, 1, 2, 1, 1, 1);
-    shown::line(b"case 7");
+    display::line(b"case 7");
     let t = shown::table_of(1);
     shown::offer(t, 1, 1, 3, 1, 1, 1);
     let t = shown::table_of(3);
     shown::offer(t, 1, 1, 3, 1, 1, 1);
-    shown::line(b"case 8");
+    display::line(b"case 8");
     let t = shown::table_of(1);
     let t = shown::offer(t, 1, 2, 2, 1, 1, 3);
     shown::offer(t, 1, 2, 2, 1, 1, 4);
@@ -63,7 +63,7 @@ fn cases_6_to_8() {
 // Case 1's plan through the window. Then the refusals: one record more than the memory has, with from after until as well; the largest
 // 32-bit count; two records that start together.
 fn case_9() {
-    shown::line(b"case 9");
+    display::line(b"case 9");
     let mut plan = [0u32; 4096];
     let t = offers_of_case_1();
     let b = shown::tick(t, &mut plan);
@@ -95,7 +95,7 @@ fn count_of(word: u32, words: &[u32]) -> usize
 fn show_untouched(plan: &[u32]) {
     io::write_all(1, b"untouched ");
     io::print_decimal(1, count_of(77777, plan) as u64);
-    shown::line(b"");
+    display::line(b"");
 }
 
 // Refused, the table and every word are as before; the same table then gives the plan of case 1.
@@ -110,7 +110,7 @@ fn case_10_lent(lent: usize, t: Table, plan: &mut [u32]) -> Table
 }
 
 fn case_10() {
-    shown::line(b"case 10");
+    display::line(b"case 10");
     let mut plan = [77777u32; 4096];
     let t = offers_of_case_1();
     shown::enquire(t, 7);

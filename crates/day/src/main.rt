@@ -64,7 +64,7 @@ fn first_lesson(t: Table, plan: &mut [u32]) -> Table
     requires { ⌜ WellFormed t ⌝ }
     ensures { λ r. ⌜ WellFormed r ⌝ }
 {
-    shown::line(b"lesson 1");
+    display::line(b"lesson 1");
     let all = Request {
         stream: 1,
         kind: 1,
@@ -87,7 +87,7 @@ fn second_lesson(t: Table, plan: &mut [u32]) -> Table
     requires { ⌜ WellFormed t ⌝ }
     ensures { λ r. ⌜ WellFormed r ⌝ }
 {
-    shown::line(b"lesson 2");
+    display::line(b"lesson 2");
     let aloud = Request {
         stream: 1,
         kind: 1,
@@ -118,7 +118,7 @@ fn third_lesson(t: Table, plan: &mut [u32]) -> Table
     requires { ⌜ WellFormed t ⌝ }
     ensures { λ r. ⌜ WellFormed r ⌝ }
 {
-    shown::line(b"lesson 3");
+    display::line(b"lesson 3");
     let t = shown::offer(t, 0, 1, 2, 1, 1, 3);
     let t = shown::offer(t, 65536, 1, 2, 1, 1, 3);
     let t = shown::offer(t, 12, 1, 5, 1000, 2000, 3);
@@ -147,7 +147,7 @@ fn fourth_lesson(t: Table, plan: &mut [u32]) -> Table
     requires { ⌜ WellFormed t ⌝ }
     ensures { λ r. ⌜ WellFormed r ⌝ }
 {
-    shown::line(b"lesson 4");
+    display::line(b"lesson 4");
     let aloud = Request {
         stream: 21,
         kind: 1,
@@ -171,7 +171,7 @@ fn fifth_lesson(t: Table, plan: &mut [u32]) -> Table
     requires { ⌜ WellFormed t ⌝ }
     ensures { λ r. ⌜ WellFormed r ⌝ }
 {
-    shown::line(b"lesson 5");
+    display::line(b"lesson 5");
     let t = shown::offer(t, 24, 2, 2, 102400, 102400, 4);
     let t = shown::offer(t, 25, 2, 2, 102400, 102400, 4);
     let t = intervals(t, 1, plan);
@@ -187,7 +187,7 @@ fn sixth_lesson(t: Table, plan: &mut [u32]) -> Table
     requires { ⌜ WellFormed t ⌝ }
     ensures { λ r. ⌜ WellFormed r ⌝ }
 {
-    shown::line(b"lesson 6");
+    display::line(b"lesson 6");
     let all = Request {
         stream: 1,
         kind: 2,

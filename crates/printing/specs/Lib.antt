@@ -1,4 +1,2 @@
 pub mod Printed
-pub mod Powers
 pub mod PrintedLaws
-pub mod ReadBack

@@ -1,27 +1,11 @@
--- Printed rows. Document 01, "Reading, lending, printing": rows of six fields with CR LF; numbers without leading zeros, their digits
--- from a table of powers of ten. Assumes nothing.
-use Prim.Native.Nat.{ℕ, zero, suc, _+_, _/_, _%_, max}
-use mathlib.Core.List.{List, [], _∷_, _++_, map}
-use lib.Dec.{leb}
-use lib.ListN.{length, take, drop, getD}
-use Rattle.lists.specs.Lists.{keep}
+-- Printed rows. Document 01, "Reading, lending, printing": rows of six fields with CR LF. Assumes nothing.
+use Prim.Native.Nat.{ℕ, zero, suc}
+use mathlib.Core.List.{List, [], _∷_, _++_}
+use lib.ListN.{drop, getD}
+use Rattle.writing.specs.Bytes.{decimal}
+unfoldable pub use Rattle.writing.specs.Bytes.{written}
 
--- ---- numbers
-abbrev pub tens : List ℕ
-tens = 1000000000 ∷ 100000000 ∷ 10000000 ∷ 1000000 ∷ 100000 ∷ 10000 ∷ 1000 ∷ 100 ∷ 10 ∷ 1 ∷ []
-
--- the digit of n at a power of ten
-abbrev pub digitAt : ℕ → ℕ → ℕ
-digitAt n p = 48 + n / p % 10
-
--- the digits at the powers that are at most n; 0 has one
-unfoldable pub decimal : ℕ → List ℕ
-decimal n = map (digitAt n) (keep (λ p. leb p (max 1 n)) tens)
-
--- ---- room: the most bytes of a number, of the header's row, of the two rows of calls after their verb, and of a record's row
-abbrev pub numberMost : ℕ
-numberMost = 10
-
+-- ---- room: the most bytes of the header's row, of the two rows of calls after their verb, and of a record's row
 abbrev pub headerMost : ℕ
 headerMost = 36
 
@@ -64,7 +48,3 @@ slotRow stream job start len =
 unfoldable pub slotRows : ℕ → List ℕ → List ℕ
 slotRows zero ws = []
 slotRows (suc n) ws = slotRow (getD ws 0 0) (getD ws 1 0) (getD ws 2 0) (getD ws 3 0) ++ slotRows n (drop 4 ws)
-
--- ---- lent memory: some bytes stand in it from a place on, and every other byte is as it was
-unfoldable pub written : List ℕ → ℕ → List ℕ → List ℕ
-written out at bs = take at out ++ bs ++ drop (at + length bs) out

@@ -8,92 +8,16 @@ ghost use Rattle.lists.specs.Lists.{within};
 ghost use Rattle.rules.specs.Calls.{openAnswer, opened, offered, withdrawn, beacon};
 ghost use Rattle.rules.specs.WellFormed.{WellFormed};
 ghost use Rattle.planner.specs.Numbers.{openNumber, beaconNumber, request, noTable};
-use model::Entry;
 use model::Table;
 use planner::Beaconing;
 use planner::Opening;
 
-// ---- rows
-pub fn line(text: &[u8]) {
-    io::write_all(1, text);
-    io::write_all(1, b"\n");
-}
-
-pub fn number(n: u32) {
-    io::print_decimal(1, n as u64);
-}
-
-fn field(n: u32) {
-    number(n);
-    io::write_all(1, b",");
-}
-
-// Job, start and length are empty in the row of a call.
-fn end_row(answer: u32) {
-    io::write_all(1, b",,,");
-    number(answer);
-    io::write_all(1, b"\n");
-}
-
-fn plain_row(verb: &[u8], answer: u32) {
-    io::write_all(1, verb);
-    io::write_all(1, b",,");
-    end_row(answer);
-}
-
-fn stream_row(verb: &[u8], stream: u32, answer: u32) {
-    io::write_all(1, verb);
-    io::write_all(1, b",");
-    field(stream);
-    end_row(answer);
-}
-
-// The i-th record of a plan, where the plan has that many words.
-fn slot_row(plan: &[u32], i: usize) {
-    if plan.len() / 4 <= i {
-        return;
-    }
-    let at = 4 * i;
-    io::write_all(1, b"slot,");
-    field(plan[at]);
-    field(plan[at + 1]);
-    field(plan[at + 2]);
-    field(plan[at + 3]);
-    io::write_all(1, b"\n");
-}
-
-fn slot_rows(plan: &[u32], count: usize) {
-    let mut i = 0;
-    while i < count {
-        slot_row(plan, i);
-        i += 1;
-    }
-}
-
-// Every field of an entry.
-fn entry_row(e: Entry) {
-    io::write_all(1, b"entry,");
-    field(e.stream);
-    field(e.kind);
-    field(e.parts);
-    field(e.period.0);
-    field(e.min.0);
-    field(e.max.0);
-    field(e.life.0);
-    field(e.life_left.0);
-    field(e.owed.0);
-    field(e.given.0);
-    number(e.left.0);
-    io::write_all(1, b"\n");
-}
-
-// ---- the calls
 pub fn open(units: u32) -> Opening
     ensures { λ r. ⌜ (openNumber (r .answer) ≡ openAnswer units) × (r .table ≡ cond (eqb (openAnswer units) 0) (opened units) noTable) ⌝ }
 {
     let o = planner::open(units);
     let answer = o.answer;
-    plain_row(b"open", planner::open_number(answer));
+    display::plain_row(b"open", planner::open_number(answer));
     o
 }
 
@@ -114,7 +38,7 @@ pub fn offer(t: Table, stream: u32, kind: u32, period: u32, min: u32, max: u32, 
 {
     let o = planner::offer(t, stream, kind, period, min, max, life);
     let answer = o.answer;
-    stream_row(b"offer", stream, planner::offer_number(answer));
+    display::stream_row(b"offer", stream, planner::offer_number(answer));
     o.table
 }
 
@@ -125,7 +49,7 @@ pub fn withdraw(t: Table, stream: u32) -> Table
 {
     let w = planner::withdraw(t, stream);
     let answer = w.answer;
-    stream_row(b"withdraw", stream, planner::held_number(answer));
+    display::stream_row(b"withdraw", stream, planner::held_number(answer));
     w.table
 }
 
@@ -134,8 +58,8 @@ pub fn enquire(t: Table, stream: u32)
 {
     let q = planner::enquire(t, stream);
     let answer = q.answer;
-    stream_row(b"enquire", stream, planner::held_number(answer));
-    entry_row(q.entry);
+    display::stream_row(b"enquire", stream, planner::held_number(answer));
+    display::entry_row(q.entry);
 }
 
 // The answer alone.
@@ -147,7 +71,7 @@ pub fn tick(t: Table, plan: &mut [u32]) -> Beaconing
 {
     let b = planner::beacon(t, plan);
     let answer = b.answer;
-    plain_row(b"beacon", planner::beacon_number(answer));
+    display::plain_row(b"beacon", planner::beacon_number(answer));
     b
 }
 
@@ -158,7 +82,7 @@ pub fn beacon(t: Table, plan: &mut [u32]) -> Table
     ensures formed { λ r. ⌜ WellFormed r ⌝ }
 {
     let b = tick(t, plan);
-    slot_rows(plan, b.count);
+    display::slot_rows(plan, b.count);
     b.table
 }
 
@@ -166,6 +90,6 @@ pub fn beacon(t: Table, plan: &mut [u32]) -> Table
 pub fn window(plan: &[u32], count: usize, from: u32, until: u32) {
     let mut answer: u32 = 0;
     let part = window::window(plan, count, from, until, &mut answer);
-    plain_row(b"window", answer);
-    slot_rows(part, part.len() / 4);
+    display::plain_row(b"window", answer);
+    display::slot_rows(part, part.len() / 4);
 }

@@ -2,7 +2,7 @@
 use native.Mathlib.Omega.{arith}
 use borrow.Author.Needs.{needs}
 use Rattle.printing.specs.Printed.{plainRow}
-use Rattle.printing.specs.PrintedLaws.{field-most, wrote, contract, wrote-then}
+use Rattle.writing.specs.BytesLaws.{field-most, wrote, contract, wrote-then}
 use Rattle.printing.proofs.plain_row.Statement.{statement}
 use Rattle.printing.proofs.plain_row.Tie as tie
 

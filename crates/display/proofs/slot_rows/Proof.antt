@@ -1,8 +1,8 @@
 -- Each turn comes one nearer to the count. Assumes nothing.
 use Prim.Native.Nat.{_-_}
 use borrow.Author.Needs.{needs}
-use Rattle.shown.proofs.slot_rows.Statement.{statement}
-use Rattle.shown.proofs.slot_rows.Tie as tie
+use Rattle.display.proofs.slot_rows.Statement.{statement}
+use Rattle.display.proofs.slot_rows.Tie as tie
 
 abbrev Inv-loop : tie.InvT-loop
 Inv-loop plan count i₀ i = Unit

@@ -1,4 +1,4 @@
--- `printing::put_number` meets its contract. The invariant: to write the digits that are left gives what all of them give.
+-- `writing::put_number` meets its contract. The invariant: to write the digits that are left gives what all of them give.
 -- Assumes nothing.
 use mathlib.Core.Path.{_≡_, refl, ap, _∙_}
 use mathlib.Core.Logic.{⊎-elim}
@@ -6,11 +6,11 @@ use Prim.Native.Nat.{_≤_, _+_, _-_, max}
 use native.Mathlib.Omega.{arith}
 use lib.ListN.{length, length-set, drop-of-length-le}
 use borrow.Author.Needs.{needs}
-use Rattle.printing.specs.Printed.{tens, decimal, written}
-use Rattle.printing.specs.Powers.{tens-positive}
-use Rattle.printing.specs.PrintedLaws.{Wrote, digitsLeft, digit-next, digit-none, wrote-all}
-use Rattle.printing.proofs.put_number.Statement.{statement}
-use Rattle.printing.proofs.put_number.Tie as tie
+use Rattle.writing.specs.Bytes.{tens, decimal, written}
+use Rattle.writing.specs.Powers.{tens-positive}
+use Rattle.writing.specs.BytesLaws.{Wrote, digitsLeft, digit-next, digit-none, wrote-all}
+use Rattle.writing.proofs.put_number.Statement.{statement}
+use Rattle.writing.proofs.put_number.Tie as tie
 
 abbrev Inv-loop : tie.InvT-loop
 Inv-loop out₀ at n bound end₀ i₀ out end i =

@@ -12,7 +12,7 @@ use borrow.Author.Tests.{le-leb, leb-true, leb-false}
 use Rattle.lists.specs.Lists.{cons-if, keep}
 use Rattle.lists.specs.Tests.{either}
 use Rattle.lists.specs.All.{All, stop, and, all-at, keep-all}
-use Rattle.printing.specs.Printed.{tens, digitAt, decimal, numberMost}
+use Rattle.writing.specs.Bytes.{tens, digitAt, decimal, numberMost}
 
 -- the k lowest powers, the highest first
 abbrev pub powers : ℕ → List ℕ

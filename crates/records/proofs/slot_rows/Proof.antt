@@ -1,14 +1,16 @@
--- `printing::slot_rows` meets its contract. The invariant: to write the rows that are left gives what all of them give.
+-- `records::slot_rows` meets its contract. The invariant: to write the rows that are left gives what all of them give.
 -- Assumes nothing.
 use mathlib.Core.Path.{_≡_, refl}
 use Prim.Native.Nat.{_≤_, _+_, _*_}
 use native.Mathlib.Omega.{arith}
 use lib.ListN.{length, drop}
 use borrow.Author.Needs.{needs}
-use Rattle.printing.specs.Printed.{slotRows, slotRowMost, written}
-use Rattle.printing.specs.PrintedLaws.{Wrote, wrote, wrote-rest, wrote-all, rows-next, row-most}
-use Rattle.printing.proofs.slot_rows.Statement.{statement}
-use Rattle.printing.proofs.slot_rows.Tie as tie
+use Rattle.writing.specs.Bytes.{written}
+use Rattle.writing.specs.BytesLaws.{Wrote, wrote, wrote-rest, wrote-all}
+use Rattle.printing.specs.Printed.{slotRows, slotRowMost}
+use Rattle.printing.specs.PrintedLaws.{rows-next, row-most}
+use Rattle.records.proofs.slot_rows.Statement.{statement}
+use Rattle.records.proofs.slot_rows.Tie as tie
 
 abbrev Inv-loop : tie.InvT-loop
 Inv-loop out₀ at plan count end₀ word₀ left₀ out end word left =

@@ -1,14 +1,14 @@
--- `printing::put_bytes` meets its contract. The invariant: to write the bytes that are left gives what all of them give.
+-- `writing::put_bytes` meets its contract. The invariant: to write the bytes that are left gives what all of them give.
 -- Assumes nothing.
 use mathlib.Core.Path.{_≡_, refl, _∙_}
 use Prim.Native.Nat.{_≤_, _+_, _-_}
 use native.Mathlib.Omega.{arith}
 use lib.ListN.{length, length-set, drop-of-length-le}
 use borrow.Author.Needs.{needs}
-use Rattle.printing.specs.Printed.{written}
-use Rattle.printing.specs.PrintedLaws.{BytesLeft, bytes-begin, bytes-next, wrote-all}
-use Rattle.printing.proofs.put_bytes.Statement.{statement}
-use Rattle.printing.proofs.put_bytes.Tie as tie
+use Rattle.writing.specs.Bytes.{written}
+use Rattle.writing.specs.BytesLaws.{BytesLeft, bytes-begin, bytes-next, wrote-all}
+use Rattle.writing.proofs.put_bytes.Statement.{statement}
+use Rattle.writing.proofs.put_bytes.Tie as tie
 
 abbrev Inv-loop : tie.InvT-loop
 Inv-loop out₀ at bytes i₀ i-end out i =

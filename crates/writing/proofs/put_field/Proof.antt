@@ -1,10 +1,10 @@
--- `printing::put_field` meets its contract: the comma, then the number. Assumes nothing.
+-- `writing::put_field` meets its contract: the comma, then the number. Assumes nothing.
 use native.Mathlib.Omega.{arith}
 use lib.ListN.{length-set}
 use borrow.Author.Needs.{needs}
-use Rattle.printing.specs.PrintedLaws.{wrote, contract, wrote-byte, wrote-then}
-use Rattle.printing.proofs.put_field.Statement.{statement}
-use Rattle.printing.proofs.put_field.Tie as tie
+use Rattle.writing.specs.BytesLaws.{wrote, contract, wrote-byte, wrote-then}
+use Rattle.writing.proofs.put_field.Statement.{statement}
+use Rattle.writing.proofs.put_field.Tie as tie
 
 slice-write-out : tie.Need-slice-write-out
 slice-write-out c = search needs

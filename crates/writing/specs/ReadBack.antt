@@ -10,8 +10,8 @@ use lib.ListN.{length, getD}
 use borrow.Author.Tests.{le-leb}
 use Rattle.lists.specs.Tests.{both-and, both-within}
 use Rattle.text.specs.Fields.{allDigits, spelt, valueOf, isNumber}
-use Rattle.printing.specs.Printed.{digitAt, decimal}
-use Rattle.printing.specs.Powers.{powers, power-positive, topPower, digits, decimal-least, decimal-most}
+use Rattle.writing.specs.Bytes.{digitAt, decimal}
+use Rattle.writing.specs.Powers.{powers, power-positive, topPower, digits, decimal-least, decimal-most}
 
 -- the digits at the k lowest powers go on to spell the number's last k digits
 spelt-powers : (n k v : ℕ) → spelt v (map (digitAt n) (powers k)) ≡ v * 10 ^ k + n % 10 ^ k

@@ -1,10 +1,10 @@
--- `printing::slot_row` meets its contract: `slot`, four numbers, an empty field and the end of the row. Assumes nothing.
+-- `records::slot_row` meets its contract: `slot`, four numbers, an empty field and the end of the row. Assumes nothing.
 use native.Mathlib.Omega.{arith}
 use borrow.Author.Needs.{needs}
 use Rattle.printing.specs.Printed.{slotRow}
-use Rattle.printing.specs.PrintedLaws.{field-most, wrote, contract, wrote-then}
-use Rattle.printing.proofs.slot_row.Statement.{statement}
-use Rattle.printing.proofs.slot_row.Tie as tie
+use Rattle.writing.specs.BytesLaws.{field-most, wrote, contract, wrote-then}
+use Rattle.records.proofs.slot_row.Statement.{statement}
+use Rattle.records.proofs.slot_row.Tie as tie
 
 slice-aggregate-put-bytes : tie.Need-slice-aggregate-put-bytes
 slice-aggregate-put-bytes c = search needs

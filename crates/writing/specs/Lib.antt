@@ -1,0 +1,4 @@
+pub mod Bytes
+pub mod Powers
+pub mod BytesLaws
+pub mod ReadBack
