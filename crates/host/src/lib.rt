@@ -139,7 +139,7 @@ pub extern "C" fn gelmush_withdraw(table: &mut Table, stream: u32) -> u32
 pub extern "C" fn gelmush_open(table: &mut Table, units: u32) -> u32
     ensures { λ r. let a = openAnswer units in ⌜ (r ≡ a) × (now (table .exit) ≡ cond (eqb a 0) (opened units) (now (table .entry))) ⌝ }
 {
-    if model::is_within(1, 1000, units) {
+    if ranges::is_within(1, 1000, units) {
         *table = planner::empty_table(1024 * units);
         return 0;
     }

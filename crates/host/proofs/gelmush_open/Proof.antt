@@ -34,10 +34,10 @@ use Rattle.model.specs.Requests.{refusal}
 use Rattle.model.specs.declared.Table.{Table}
 use Rattle.model.proofs.Table as T
 use Rattle.model.proofs.Table.Laws as T′
-use Rattle.model.proofs.is_within as within′
-use Rattle.model.proofs.is_within.Symbol as within-def
-use Rattle.model.proofs.is_within.Symbol.{name as #model·is-within}
-use Rattle.model.proofs.is_within.Met as within-thm
+use Rattle.ranges.proofs.is_within as within′
+use Rattle.ranges.proofs.is_within.Symbol as within-def
+use Rattle.ranges.proofs.is_within.Symbol.{name as #ranges·is-within}
+use Rattle.ranges.proofs.is_within.Met as within-thm
 use Rattle.planner.specs.Numbers.{noneHeld}
 use Rattle.planner.proofs.empty_table as empty′
 use Rattle.planner.proofs.empty_table.Symbol as empty-def
@@ -100,7 +100,7 @@ module _ {M : Type 1} (𝓤 : URA M) (H : Heap 𝓤) (A : Atoms 𝓤) (at-mem : 
     abbrev Ends : Val → SProp 𝓤
     Ends = Post 𝓤 (λ t n. emp 𝓤) Says H A W κ q b o γ h n
 
-    walk : Triple 𝓤 (𝓣 .C #model·is-within) Within → Triple 𝓤 (𝓣 .C #planner·empty-table) Empty → n < 2 ^ 32
+    walk : Triple 𝓤 (𝓣 .C #ranges·is-within) Within → Triple 𝓤 (𝓣 .C #planner·empty-table) Empty → n < 2 ^ 32
         → ent 𝓤 (⋆ 𝓤 H A (‵ (fobs γ (lent h)) ∷ ‵ (loan κ b o γ) ∷ ‵ (flft κ q) ∷ raw (emp 𝓤) ∷ []))
         (WpFn 𝓤 H (𝓣 .C) (𝓣 .Λ) code.function (vptr b o ∷ vint w32 n ∷ []) Ends)
     walk known-within known-empty fits =
@@ -146,7 +146,7 @@ gelmush-open-spec 𝓤 H 𝓜 𝓖 𝓡 =
     (tables 𝓤 H 𝓜 𝓡 code.env .C) (tables 𝓤 H 𝓜 𝓡 code.env .Λ) #host·gelmush-open code.function (code.unfolded 𝓤 H 𝓜 𝓡)
     (loan-meets 𝓤 (λ t n. emp 𝓤) Says H (𝓖 .A) W 𝓣 code.function (λ κ q b o γ h n.
     walk 𝓤 H (𝓖 .A) (𝓜 .mem) (𝓡 .run) W 𝓣 κ q b o γ h n
-    (cited 𝓤 H (Within 𝓤 H (𝓖 .A) (𝓜 .mem) (𝓡 .run)) 𝓜 𝓡 code.env #model·is-within within-def.routine code.calls-model·is-within
+    (cited 𝓤 H (Within 𝓤 H (𝓖 .A) (𝓜 .mem) (𝓡 .run)) 𝓜 𝓡 code.env #ranges·is-within within-def.routine code.calls-ranges·is-within
     (within-thm.met 𝓤 H 𝓜 𝓖 𝓡))
     (cited 𝓤 H (Empty 𝓤 H (𝓖 .A) (𝓜 .mem) (𝓡 .run)) 𝓜 𝓡 code.env #planner·empty-table empty-def.routine code.calls-planner·empty-table
     (empty-thm.met 𝓤 H 𝓜 𝓖 𝓡))))
