@@ -31,7 +31,7 @@ fn answer_open(s: State, units: u32, out: &mut [u8], at: usize) -> Answered
 {
     let o = planner::open(units);
     let answer = o.answer;
-    let number = planner::open_number(answer);
+    let number = refusals::open_number(answer);
     let next = printing::plain_row(out, at, b"open", number);
     if number == 0 {
         let table = o.table;
@@ -53,7 +53,7 @@ fn answer_offer(s: State, q: Request, out: &mut [u8], at: usize) -> Answered
     }
     let o = planner::offer(s.table, q.stream, q.kind, q.period, q.min, q.max, q.life);
     let answer = o.answer;
-    let number = planner::offer_number(answer);
+    let number = refusals::offer_number(answer);
     let next = printing::stream_row(out, at, b"offer", q.stream, number);
     let table = o.table;
     let state = State { ready: true, table };
@@ -72,7 +72,7 @@ fn answer_withdraw(s: State, stream: u32, out: &mut [u8], at: usize) -> Answered
     }
     let w = planner::withdraw(s.table, stream);
     let answer = w.answer;
-    let number = planner::held_number(answer);
+    let number = refusals::held_number(answer);
     if number != 0 {
         let next = printing::stream_row(out, at, b"withdraw", stream, number);
         return Answered { state: s, at: next };
@@ -98,7 +98,7 @@ fn answer_beacon(s: State, plan: &mut [u32], out: &mut [u8], at: usize) -> Answe
     }
     let b = planner::beacon(s.table, plan);
     let answer = b.answer;
-    let number = planner::beacon_number(answer);
+    let number = refusals::beacon_number(answer);
     let after_call = printing::plain_row(out, at, b"beacon", number);
     let next = records::slot_rows(out, after_call, plan, b.count);
     let table = b.table;

@@ -8,7 +8,8 @@ ghost use lib.ListN.{length, drop};
 ghost use Rattle.rules.specs.Calls.{openAnswer, opened, offerAnswer, offered, heldAnswer, withdrawn, wordsOf, planOf, advanced};
 ghost use Rattle.rules.specs.Reading.{windowAnswer, windowPart};
 ghost use Rattle.rules.specs.WellFormed.{WellFormed};
-ghost use Rattle.planner.specs.Numbers.{beaconNumber, request};
+ghost use Rattle.refusals.specs.Numbers.{beaconNumber};
+ghost use Rattle.planner.specs.Numbers.{request};
 ghost use Rattle.expected.specs.Said.{table1};
 ghost use Rattle.expected.specs.Words.{rows, Begins, Records, Each};
 use model::Table;
@@ -54,7 +55,7 @@ fn open(units: u32) -> Table
 {
     let o = planner::open(units);
     let answer = o.answer;
-    check::expect(planner::open_number(answer) == 0);
+    check::expect(refusals::open_number(answer) == 0);
     o.table
 }
 
@@ -75,7 +76,7 @@ fn offer(
 {
     let o = planner::offer(t, stream, kind, period, min, max, life);
     let answer = o.answer;
-    check::expect(planner::offer_number(answer) == expected);
+    check::expect(refusals::offer_number(answer) == expected);
     o.table
 }
 
@@ -87,7 +88,7 @@ fn withdraw(t: Table, stream: u32) -> Table
 {
     let w = planner::withdraw(t, stream);
     let answer = w.answer;
-    check::expect(planner::held_number(answer) == 0);
+    check::expect(refusals::held_number(answer) == 0);
     w.table
 }
 
@@ -96,7 +97,7 @@ fn expect_beacon(b: Beaconing, expected: u32, count: usize)
     requires { ⌜ b .count ≡ count ⌝ }
 {
     let answer = b.answer;
-    check::expect(planner::beacon_number(answer) == expected);
+    check::expect(refusals::beacon_number(answer) == expected);
     check::expect(b.count == count);
 }
 

@@ -47,7 +47,7 @@ fn beacon_step(t: Table, plan: &mut [u32]) -> Sending
     let b = planner::beacon(t, plan);
     let answer = b.answer;
     let sent = Sent {
-        answer: planner::beacon_number(answer),
+        answer: refusals::beacon_number(answer),
         count: b.count,
     };
     let table = b.table;
@@ -70,7 +70,7 @@ fn offer_step(
     let answer = o.answer;
     let table = o.table;
     Answered {
-        answer: planner::offer_number(answer),
+        answer: refusals::offer_number(answer),
         table,
     }
 }

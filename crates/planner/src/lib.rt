@@ -10,8 +10,9 @@ ghost use Rattle.model.specs.Entries.{freeEntry};
 ghost use Rattle.rules.specs.Calls.{places, openAnswer, opened, offerAnswer, offered, heldAnswer, withdrawn, beacon};
 ghost use Rattle.rules.specs.Reading.{enquired};
 ghost use Rattle.rules.specs.WellFormed.{WellFormed};
+ghost use Rattle.refusals.specs.Numbers.{openNumber, heldNumber, beaconNumber};
 ghost use Rattle.planner.specs.Changes.{putIn, Moves};
-ghost use Rattle.planner.specs.Numbers.{openNumber, heldNumber, beaconNumber, request, noneHeld, noTable};
+ghost use Rattle.planner.specs.Numbers.{request, noneHeld, noTable};
 
 pub mod checks; // checks.rt: an offer's checks but for looking ahead, and the entry that it becomes
 
@@ -20,66 +21,10 @@ use model::OfferAnswer;
 use model::Request;
 use model::Slots;
 use model::Table;
+use refusals::BeaconAnswer;
+use refusals::HeldAnswer;
+use refusals::OpenAnswer;
 use share::Shares;
-
-pub enum OpenAnswer {
-    Opened,
-    UnitsOutside,
-}
-
-pub enum HeldAnswer {
-    Held,
-    NotHeld,
-}
-
-pub enum BeaconAnswer {
-    Planned,
-    PlanTooShort,
-}
-
-// ---- the answers' numbers, for a caller that shows them
-pub fn open_number(answer: OpenAnswer) -> u32
-    ensures { λ r. ⌜ r ≡ openNumber answer ⌝ }
-{
-    match answer {
-        OpenAnswer::Opened => 0,
-        OpenAnswer::UnitsOutside => 1,
-    }
-}
-
-pub fn offer_number(answer: OfferAnswer) -> u32
-    ensures { λ r. ⌜ r ≡ offerNumber answer ⌝ }
-{
-    match answer {
-        OfferAnswer::Accepted => 0,
-        OfferAnswer::StreamOutside => 10,
-        OfferAnswer::StreamHeld => 11,
-        OfferAnswer::KindUnknown => 12,
-        OfferAnswer::PeriodOutside => 13,
-        OfferAnswer::AmountsOutside => 14,
-        OfferAnswer::LifeOutside => 15,
-        OfferAnswer::TableFull => 16,
-        OfferAnswer::NoTime => 17,
-    }
-}
-
-pub fn held_number(answer: HeldAnswer) -> u32
-    ensures { λ r. ⌜ r ≡ heldNumber answer ⌝ }
-{
-    match answer {
-        HeldAnswer::Held => 0,
-        HeldAnswer::NotHeld => 20,
-    }
-}
-
-pub fn beacon_number(answer: BeaconAnswer) -> u32
-    ensures { λ r. ⌜ r ≡ beaconNumber answer ⌝ }
-{
-    match answer {
-        BeaconAnswer::Planned => 0,
-        BeaconAnswer::PlanTooShort => 30,
-    }
-}
 
 // ---- opening
 pub struct Opening {
@@ -120,7 +65,7 @@ pub fn open(units: u32) -> Opening
     ensures { λ r. ⌜ (openNumber (r .answer) ≡ openAnswer units) × (r .table ≡ cond (eqb (openAnswer units) 0) (opened units) noTable) ⌝ }
 {
     let answer = open_answer(units);
-    if open_number(answer) != 0 {
+    if refusals::open_number(answer) != 0 {
         let table = empty_table(0);
         return Opening { answer, table };
     }

@@ -7,7 +7,8 @@ ghost use lib.Dec.{eqb};
 ghost use Rattle.lists.specs.Lists.{within};
 ghost use Rattle.rules.specs.Calls.{openAnswer, opened, offered, withdrawn, beacon};
 ghost use Rattle.rules.specs.WellFormed.{WellFormed};
-ghost use Rattle.planner.specs.Numbers.{openNumber, beaconNumber, request, noTable};
+ghost use Rattle.refusals.specs.Numbers.{openNumber, beaconNumber};
+ghost use Rattle.planner.specs.Numbers.{request, noTable};
 use model::Table;
 use planner::Beaconing;
 use planner::Opening;
@@ -17,7 +18,7 @@ pub fn open(units: u32) -> Opening
 {
     let o = planner::open(units);
     let answer = o.answer;
-    display::plain_row(b"open", planner::open_number(answer));
+    display::plain_row(b"open", refusals::open_number(answer));
     o
 }
 
@@ -38,7 +39,7 @@ pub fn offer(t: Table, stream: u32, kind: u32, period: u32, min: u32, max: u32, 
 {
     let o = planner::offer(t, stream, kind, period, min, max, life);
     let answer = o.answer;
-    display::stream_row(b"offer", stream, planner::offer_number(answer));
+    display::stream_row(b"offer", stream, refusals::offer_number(answer));
     o.table
 }
 
@@ -49,7 +50,7 @@ pub fn withdraw(t: Table, stream: u32) -> Table
 {
     let w = planner::withdraw(t, stream);
     let answer = w.answer;
-    display::stream_row(b"withdraw", stream, planner::held_number(answer));
+    display::stream_row(b"withdraw", stream, refusals::held_number(answer));
     w.table
 }
 
@@ -58,7 +59,7 @@ pub fn enquire(t: Table, stream: u32)
 {
     let q = planner::enquire(t, stream);
     let answer = q.answer;
-    display::stream_row(b"enquire", stream, planner::held_number(answer));
+    display::stream_row(b"enquire", stream, refusals::held_number(answer));
     display::entry_row(q.entry);
 }
 
@@ -71,7 +72,7 @@ pub fn tick(t: Table, plan: &mut [u32]) -> Beaconing
 {
     let b = planner::beacon(t, plan);
     let answer = b.answer;
-    display::plain_row(b"beacon", planner::beacon_number(answer));
+    display::plain_row(b"beacon", refusals::beacon_number(answer));
     b
 }
 

@@ -9,7 +9,7 @@ use borrow.Author.Tests.{lt-ltb, le-ltb}
 use Rattle.rules.specs.Calls.{recordWords, mostRecords, wordsOf, planOf, beacon}
 use Rattle.laws.specs.Places.{formed-tidy}
 use Rattle.share.specs.Queues.{Used}
-use Rattle.planner.specs.Numbers.{beaconNumber}
+use Rattle.refusals.specs.Numbers.{beaconNumber}
 use Rattle.planner.specs.Changes.{stays-put, moves-on, none-beacon}
 use borrow.Author.Needs.{needs}
 use Rattle.planner.proofs.plan_interval.Statement.{statement}
