@@ -23,12 +23,12 @@ use contract.Running.{givenOf, tables, tablesOf}
 use types.Kit.{Given, Item, ‵, raw, runs, anyQ, atRet, Sq, ⋆, _$_, _∵_, !, qed, by, move, keep, rewrite}
 use types.Part.{whole, sub, look-in}
 use types.Run.{look, store, init, forget, stop, fld, from, load, lit, of-opd, bin, assigns, assigns-last, first, blocks}
-use types.Run.{stays, leaves-loop, returns, returns-within, enter, alloc1, alloc0, params1, pass1, pass0, free1, free0, exec, Below, again, loops}
+use types.Run.{stays, leaves-loop, returns, returns-within, enter, alloc1, alloc0, params1, pass1, pass0, free1, free0, exec}
+use types.Run.{Below, again, loops}
 use denote.Laws.{Is}
 use denote.Memory.{pointee}
 use denote.Plain.{uint-makes}
 use denote.Builtin.{usize}
-use denote.Struct.Laws as LL
 use denote.Triple.Spec.{tripleOf}
 use denote.Triple.Table.{entered}
 use borrow.Author.Tests.{lt-ltb, le-ltb, ltb-true, ltb-false, eqb-false}
@@ -36,14 +36,13 @@ use Rattle.lists.specs.Tests.{either}
 use Rattle.lists.specs.First.{firstOf, first-found, first-passed, first-ended}
 use Rattle.model.specs.Entries.{freeEntry, isStream}
 use Rattle.model.specs.declared.Table.{Table}
-use Rattle.model.proofs.Entry as N
 use Rattle.model.proofs.Entry.Laws as N′
 use Rattle.model.proofs.Table as T
 use Rattle.share.proofs.Known.{inside, past}
 use Rattle.survey.specs.Search.{isHeldAs, held-by-number, place-nobody}
 use Rattle.host.proofs.Lent.{lent, gone}
-use Rattle.host.proofs.Steps.{is-true, is-false, tests}
-use Rattle.host.proofs.Entries.{tableAt, at-place, entry-reached, entry-read}
+use Rattle.host.proofs.Walk.{is-true, is-false, tests}
+use Rattle.host.proofs.Entries.{tableAt, at-place, typed-entry, entry-reached, entry-read}
 use Rattle.host.proofs.Looked.{look as loan, Shared, Post, exits, look-meets, look-opens, look-shuts}
 use Rattle.host.proofs.place_in.Key.{name as #host·place-in}
 use Rattle.host.proofs.place_in as lent′
@@ -92,13 +91,15 @@ module _ {M : Type 1} (𝓤 : URA M) (H : Heap 𝓤) (A : Atoms 𝓤) (W : Given
     En = (word, l₀) ∷ (ref, l₁) ∷ (tyInt w32, l₂) ∷ (word, l₃) ∷ (N′.mir, l₄) ∷ (tyBool, l₅) ∷ (tyBool, l₆) ∷ (word, l₇) ∷ (tyPtr, l₈)
         ∷ (tyPtr, l₉) ∷ (N′.mir, l₁₀) ∷ []
 
+    -- In the comments on contexts, _n is the cell of the n-th local, or room for it, and …n is what frees it.
     -- [the table; the open loan; the loan; _10; …10; _9; …9; _8; …8; _7; …7; _6; …6; _5; …5; _4; …4; _3; …3; _2; …2; _1; …1; _0; …0; res]
     abbrev At : Turn h n → List (Item 𝓤)
     At t = ‵ (tableAt s h b o) ∷ ‵ (fobor κ q (tableAt s h b o)) ∷ ‵ (loan κ h b o)
         ∷ ‵ (froom N′.mir l₁₀ 0) ∷ ‵ (fdies N′.mir l₁₀) ∷ ‵ (froom tyPtr l₉ 0) ∷ ‵ (fdies tyPtr l₉)
         ∷ ‵ (froom tyPtr l₈ 0) ∷ ‵ (fdies tyPtr l₈) ∷ ‵ (froom word l₇ 0) ∷ ‵ (fdies word l₇)
-        ∷ ‵ (froom tyBool l₆ 0) ∷ ‵ (fdies tyBool l₆) ∷ ‵ (froom tyBool l₅ 0) ∷ ‵ (fdies tyBool l₅) ∷ ‵ (froom N′.mir l₄ 0) ∷ ‵ (fdies N′.mir l₄)
-        ∷ ‵ (fat fullShare word l₃ 0 (vint w64 (t .i))) ∷ ‵ (fdies word l₃) ∷ ‵ (fat fullShare (tyInt w32) l₂ 0 (vint w32 n))
+        ∷ ‵ (froom tyBool l₆ 0) ∷ ‵ (fdies tyBool l₆) ∷ ‵ (froom tyBool l₅ 0) ∷ ‵ (fdies tyBool l₅)
+        ∷ ‵ (froom N′.mir l₄ 0) ∷ ‵ (fdies N′.mir l₄) ∷ ‵ (fat fullShare word l₃ 0 (vint w64 (t .i))) ∷ ‵ (fdies word l₃)
+        ∷ ‵ (fat fullShare (tyInt w32) l₂ 0 (vint w32 n))
         ∷ ‵ (fdies (tyInt w32) l₂) ∷ ‵ (fat fullShare ref l₁ 0 (vptr b o)) ∷ ‵ (fdies ref l₁) ∷ ‵ (froom word l₀ 0) ∷ ‵ (fdies word l₀)
         ∷ ‵ (fres γ (lent h)) ∷ []
 
@@ -117,21 +118,25 @@ module _ {M : Type 1} (𝓤 : URA M) (H : Heap 𝓤) (A : Atoms 𝓤) (W : Given
         move ! (21 ∷ 17 ∷ 9 ∷ 7 ∷ 5 ∷ []) $ entry-reached b o (t .i) ! less refl refl refl refl refl $
         -- [_1; _3; _7; _8; _9; the table; the open loan; the loan; _10; …]
         move ! (5 ∷ 4 ∷ 8 ∷ []) $ entry-read b o (t .i) ! less refl refl s h (λ is.
-        -- [the table; _9; _10; _1; _3; _7; _8; the open loan; the loan; …10; …9; …8; …7; _6; …6; _5; …5; _4; …4; …3; _2; …2; …1; _0; …0; res]
+        -- [the table; _9; _10; _1; _3; _7; _8; the open loan; the loan; …10; …9; …8; …7; _6; …6; _5; …5; _4; …4; …3; _2; …2; …1; _0; …0;
+        -- res]
         assigns ! (of-opd ! (load ! (from ! (stop !)) (look ! 2 refl))) (from ! (stop !))
-        (init ! 17 refl (LL.lawful N.the-type N′.the-laws 𝓤 H A W .typed (at-place h (t .i)) _ is .0)) $
-        assigns ! (bin ! (load ! (from ! (fld ! refl (stop !))) (look-in ! 17 (sub ! 0 refl (whole !)))) (load ! (from ! (stop !)) (look ! 20 refl)) tt)
+        (init ! 17 refl (typed-entry 𝓤 H A W (at-place h (t .i)) is)) $
+        assigns ! (bin ! (load ! (from ! (fld ! refl (stop !))) (look-in ! 17 (sub ! 0 refl (whole !))))
+        (load ! (from ! (stop !)) (look ! 20 refl)) tt)
         (from ! (stop !)) (store ! 13 refl (tt, tt)) $
         tests ! (load ! (from ! (stop !)) (look ! 13 refl))
         (λ on.
         let word-fits : t .i < 2 ^ 64 = omega arith in
-        assigns ! (of-opd ! (load ! (from ! (stop !)) (look ! 4 refl))) (from ! (stop !)) (init ! 23 refl (tt, record { fits = word-fits })) $
+        assigns ! (of-opd ! (load ! (from ! (stop !)) (look ! 4 refl))) (from ! (stop !))
+        (init ! 23 refl (tt, record { fits = word-fits })) $
         move ! (0 ∷ 7 ∷ []) $ look-shuts h b o ! tt s $
         -- [the token; _9; _10; _1; _3; _7; _8; the loan; …10; …9; …8; …7; _6; …6; _5; …5; _4; …4; …3; _2; …2; …1; _0; …0; res]
         returns-within ! Ends refl (look ! 22 refl) $
         move ! (22 ∷ 23 ∷ 3 ∷ 21 ∷ 19 ∷ 20 ∷ 4 ∷ 18 ∷ 16 ∷ 17 ∷ 14 ∷ 15 ∷ 12 ∷ 13 ∷ 5 ∷ 11 ∷ 6 ∷ 10 ∷ 1 ∷ 9 ∷ 2 ∷ 8 ∷ []) $
-        gone ! $ gone ! $ gone ! $ gone ! $ gone ! $ free1 ! $ gone ! $ gone ! $ gone ! $ gone ! $ gone ! $ free0 ! $ move ! (2 ∷ 1 ∷ 0 ∷ []) $
-        by ! (ends-at (t .i) word-fits (first-found (isHeldAs n) _ _ (t .so) freeEntry (inside h was less) (sym (by-number t)) (is-true _ on))))
+        gone ! $ gone ! $ gone ! $ gone ! $ gone ! $ free1 ! $ gone ! $ gone ! $ gone ! $ gone ! $ gone ! $ free0 ! $
+        move ! (2 ∷ 1 ∷ 0 ∷ []) $ by ! (ends-at (t .i) word-fits
+        (first-found (isHeldAs n) _ _ (t .so) freeEntry (inside h was less) (sym (by-number t)) (is-true _ on))))
         (λ off.
         let next-fits : t .i + 1 < 2 ^ 64 = omega arith in
         assigns-last ! (bin ! (load ! (from ! (stop !)) (look ! 4 refl)) (lit ! tt) (record { fits = next-fits })) (from ! (stop !))
