@@ -35,7 +35,7 @@ use Rattle.model.proofs.Entry as N
 use Rattle.model.proofs.Entry.Laws as N′
 use Rattle.model.proofs.Table as T
 use Rattle.model.proofs.Table.Laws as T′
-use Rattle.host.proofs.Lent.{at-spot}
+use Rattle.host.proofs.Lent.{Typed, at-spot}
 
 -- where the entry of place i lies, in a table at the offset o
 abbrev pub entryOffset : ℕ → ℕ → ℕ
@@ -93,6 +93,9 @@ entryVal e = LL.val N.the-type N′.the-laws e
 abbrev pub IsEntry : Entry → Type 0
 IsEntry e = Is N.the-row e (entryVal e ∷ [])
 
+pub typed-entry : {M : Type 1} (𝓤 : URA M) (H : Heap 𝓤) (A : Atoms 𝓤) → Given 𝓤 H A → (e : Entry) → IsEntry e → Typed N′.mir (entryVal e)
+typed-entry 𝓤 H A W e is = LL.lawful N.the-type N′.the-laws 𝓤 H A W .typed e _ is .0
+
 module _ {M : Type 1} {𝓤 : URA M} {H : Heap 𝓤} {A : Atoms 𝓤} {W : Given 𝓤 H A} {Γ : List (Item 𝓤)} {G : Goal 𝓤 H} (s : Share) (t : Table)
     (i : ℕ) (y : Entry) (b o : ℕ) where
   -- the entry is taken out of the table, as the cell of its machine value
@@ -102,18 +105,20 @@ module _ {M : Type 1} {𝓤 : URA M} {H : Heap 𝓤} {A : Atoms 𝓤} {W : Given
   unfolding partOf
   takes-entry z h k =
       let e = at-place t i in
-      use1 W (‵ (entryAt s e b o i) ⊛ raw (Back 𝓤 H A W s t i y b o)) (entry-taken 𝓤 H A W s t i y b o h) $ split ! $ fpick ! (λ vs. fsplit ! $
+      use1 W (‵ (entryAt s e b o i) ⊛ raw (Back 𝓤 H A W s t i y b o)) (entry-taken 𝓤 H A W s t i y b o h) $ split ! $
+      fpick ! (λ vs. fsplit ! $
       spelt ! N.the-row (Is N.the-row) (shows 𝓤 H A N.the-row) (LL.vals N.the-type N′.the-laws) (LL.tells N.the-type N′.the-laws)
       s e vs b (entryOffset o i) $
-      use1 W (‵ (fat s N′.mir b (entryOffset o i) (entryVal e))) (W .laws .raw-at s N′.mir b (entryOffset o i) (entryVal e)) $ move ! (1 ∷ []) $
-      facts ! N.the-row (Is N.the-row) (shows 𝓤 H A N.the-row) e (entryVal e ∷ []) (λ is. k is))
+      use1 W (‵ (fat s N′.mir b (entryOffset o i) (entryVal e))) (W .laws .raw-at s N′.mir b (entryOffset o i) (entryVal e)) $
+      move ! (1 ∷ []) $ facts ! N.the-row (Is N.the-row) (shows 𝓤 H A N.the-row) e (entryVal e ∷ []) (λ is. k is))
 
   -- y is put in its place
   puts-entry : Go {0} → IsEntry y → Step (Go {0}) W (‵ (tableAt s (with-entry t i y) b o) ∷ Γ) G
       (‵ (fat s N′.mir b (entryOffset o i) (entryVal y)) ∷ raw (Back 𝓤 H A W s t i y b o) ∷ Γ) G
   unfolding partOf
   puts-entry z is = step (λ k.
-      use1 W (‵ (cellAt s (N.the-row .mir) (entryVal y ∷ []) b (entryOffset o i))) (W .laws .at-raw s N′.mir b (entryOffset o i) (entryVal y)) $
+      use1 W (‵ (cellAt s (N.the-row .mir) (entryVal y ∷ []) b (entryOffset o i)))
+      (W .laws .at-raw s N′.mir b (entryOffset o i) (entryVal y)) $
       owned ! N.the-row (Is N.the-row) ((LL.makes N.the-type N′.the-plain) 𝓤 H A) y (entryVal y ∷ []) is $ move ! (1 ∷ 0 ∷ []) $ fjoin ! $
       fpack ! (List Val) (λ us. fsep (cellAt s (N.the-row .mir) us b (entryOffset o i)) (N.the-row .own y us)) (entryVal y ∷ []) $
       use2 W (‵ (tableAt s (with-entry t i y) b o))
@@ -145,13 +150,14 @@ module _ {M : Type 1} {𝓤 : URA M} {H : Heap 𝓤} {A : Atoms 𝓤} {W : Given
   -- the entry there is copied to _j
   pub entry-read : Go {0} → i < 32 → {r lr j lj : ℕ} → spotOf 𝓤 H E r ≡ (tyPtr, lr, 0) → spotOf 𝓤 H E j ≡ (N′.mir, lj, 0)
       → (s : Share) (t : Table) → (IsEntry (at-place t i) → Seq (Go {0}) W (‵ (tableAt s t b o)
-      ∷ ‵ (fat fullShare tyPtr lr 0 (vptr b (entryOffset o i))) ∷ ‵ (fat fullShare N′.mir lj 0 (entryVal (at-place t i))) ∷ Γ) (runs C Λ E rest Q))
+      ∷ ‵ (fat fullShare tyPtr lr 0 (vptr b (entryOffset o i))) ∷ ‵ (fat fullShare N′.mir lj 0 (entryVal (at-place t i))) ∷ Γ)
+      (runs C Λ E rest Q))
       → Seq (Go {0}) W (‵ (tableAt s t b o) ∷ ‵ (fat fullShare tyPtr lr 0 (vptr b (entryOffset o i))) ∷ ‵ (froom N′.mir lj 0) ∷ Γ)
       (runs C Λ E (seq (assign (place j []) (rvOpd (copy (place r (deref N′.mir ∷ []))))) rest) Q)
   entry-read z h at-r at-j s t k =
       takes-entry s t i (at-place t i) b o ! h (λ is.
       assigns ! (of-opd ! (load ! (at-spot ! at-r (hop ! (look ! 2 refl) (stop !))) (look ! 0 refl))) (at-spot ! at-j (stop !))
-      (init ! 3 refl (LL.lawful N.the-type N′.the-laws 𝓤 H A W .typed (at-place t i) _ is .0)) $
+      (init ! 3 refl (typed-entry 𝓤 H A W (at-place t i) is)) $
       puts-entry s t i (at-place t i) b o ! is $
       rewrite ! 0 (λ (es : List Entry). ‵ (tableAt s (record { interval = t .interval; entries = es }) b o))
       (set-getD (t .entries) i freeEntry) refl $ k is)
@@ -161,10 +167,11 @@ module _ {M : Type 1} {𝓤 : URA M} {H : Heap 𝓤} {A : Atoms 𝓤} {W : Given
       → (t : Table) (e : Entry) → IsEntry e
       → Step (Go {0}) W (‵ (tableAt fullShare (with-entry t i e) b o)
       ∷ ‵ (fat fullShare tyPtr lr 0 (vptr b (entryOffset o i))) ∷ ‵ (fat fullShare N′.mir lj 0 (entryVal e)) ∷ Γ) (runs C Λ E rest Q)
-      (‵ (tableAt fullShare t b o) ∷ ‵ (fat fullShare tyPtr lr 0 (vptr b (entryOffset o i))) ∷ ‵ (fat fullShare N′.mir lj 0 (entryVal e)) ∷ Γ)
+      (‵ (tableAt fullShare t b o)
+      ∷ ‵ (fat fullShare tyPtr lr 0 (vptr b (entryOffset o i))) ∷ ‵ (fat fullShare N′.mir lj 0 (entryVal e)) ∷ Γ)
       (runs C Λ E (seq (assign (place r (deref N′.mir ∷ [])) (rvOpd (copy (place j [])))) rest) Q)
   entry-written z h at-r at-j t e is = step (λ k.
       takes-entry fullShare t i e b o ! h (λ was.
       assigns ! (of-opd ! (load ! (at-spot ! at-j (stop !)) (look ! 3 refl))) (at-spot ! at-r (hop ! (look ! 2 refl) (stop !)))
-      (store ! 0 refl (LL.lawful N.the-type N′.the-laws 𝓤 H A W .typed e _ is .0)) $
+      (store ! 0 refl (typed-entry 𝓤 H A W e is)) $
       puts-entry fullShare t i e b o ! is $ k))

@@ -4,4 +4,4 @@ pub mod Looked
 pub mod Number
 pub mod Search
 pub mod Stepped
-pub mod Steps
+pub mod Walk

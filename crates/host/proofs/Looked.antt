@@ -107,7 +107,8 @@ module _ {M : Type 1} (𝓤 : URA M) (R : RattleType) (Asks : Table → ℕ → 
         via 𝓤 _ (enters (κs .0) (qs .0) (a .0 .ptr .0) (a .0 .ptr .1) (a .0 .name) (a .0 .now) (a .1 .0))
         (walk (κs .0) (qs .0) (a .0 .ptr .0) (a .0 .ptr .1) (a .0 .name) (a .0 .now) (a .1 .0) (are .1 .0 .1))))
 
-module _ {M : Type 1} {𝓤 : URA M} {H : Heap 𝓤} {A : Atoms 𝓤} {W : Given 𝓤 H A} {Γ : List (Item 𝓤)} {G : Goal 𝓤 H} (h : Table) (b o : ℕ) where
+module _ {M : Type 1} {𝓤 : URA M} {H : Heap 𝓤} {A : Atoms 𝓤} {W : Given 𝓤 H A} {Γ : List (Item 𝓤)} {G : Goal 𝓤 H}
+    (h : Table) (b o : ℕ) where
   -- a table that lies in memory is one
   is-table : Go {0} → (s : Share) → ((vs : List Val) → Is T.the-row h vs → Seq (Go {0}) W (‵ (tableAt s h b o) ∷ Γ) G)
       → Seq (Go {0}) W (‵ (tableAt s h b o) ∷ Γ) G
@@ -124,8 +125,8 @@ module _ {M : Type 1} {𝓤 : URA M} {H : Heap 𝓤} {A : Atoms 𝓤} {W : Given
       → Seq (Go {0}) W (‵ (look κ h b o) ∷ ‵ (flft κ q) ∷ Γ) G
   look-opens z soaks k =
       shr-bor-dup ! $ move ! (0 ∷ 2 ∷ []) $ shr-bor-open ! soaks
-      (part-halves 𝓤 H A W T.the-row (Is T.the-row) (shows 𝓤 H A T.the-row) (LL.vals T.the-type T′.the-laws) (LL.tells T.the-type T′.the-laws)
-      ((LL.copy T.the-type T′.the-copy) 𝓤 H A W) h b o) (λ s. move ! (1 ∷ []) $ is-table h b o ! s (k s))
+      (part-halves 𝓤 H A W T.the-row (Is T.the-row) (shows 𝓤 H A T.the-row) (LL.vals T.the-type T′.the-laws)
+      (LL.tells T.the-type T′.the-laws) ((LL.copy T.the-type T′.the-copy) 𝓤 H A W) h b o) (λ s. move ! (1 ∷ []) $ is-table h b o ! s (k s))
 
   pub look-shuts : Go {0} → Soaks G → (s : Share)
       → Step (Go {0}) W (‵ (flft κ q) ∷ Γ) G (‵ (tableAt s h b o) ∷ ‵ (fobor κ q (tableAt s h b o)) ∷ Γ) G

@@ -22,7 +22,7 @@ use sound.WpLaws.{FmC}
 use denote.Laws.{Is, shows}
 use denote.Builtin.{usize}
 use denote.Lend.{lends-shr}
-use denote.Ref.{ShrRef}
+use denote.Ref.{RefT, ShrRef}
 use denote.Steps.{only, facts, heard, nothing}
 use denote.Struct.Laws as LL
 use denote.Triple.Spec.{tripleOf}
@@ -37,13 +37,21 @@ use Rattle.model.proofs.Entry.Laws as N′
 use Rattle.model.proofs.Table as T
 use Rattle.model.proofs.free_entry as free
 use Rattle.model.proofs.free_entry.Symbol.{name as #model·free-entry}
+use Rattle.rules.specs.WellFormed.{WellFormed}
 use Rattle.survey.specs.Search.{isHeldAs}
 use Rattle.host.proofs.Lent.{lent, number}
-use Rattle.host.proofs.Steps.{Gives, gives, calls-value}
+use Rattle.host.proofs.Walk.{Gives, gives, calls-value}
 use Rattle.host.proofs.Entries.{tableAt, entryVal, IsEntry}
 use Rattle.host.proofs.Looked.{look, Shared}
 use Rattle.host.proofs.place_in as search
 use Rattle.host.proofs.place_in.Symbol.{name as #host·place-in}
+
+abbrev ref : ℕ → ℕ → GName → Table → RefT Table
+ref b o γ h = record { ptr = (b, o); name = γ; now = h }
+
+-- what is required of a table that is searched
+abbrev pub Formed : {M : Type 1} (𝓤 : URA M) → Table → ℕ → SProp 𝓤
+Formed 𝓤 t stream = fact 𝓤 (WellFormed t)
 
 abbrev pub IsPlace : Table → ℕ → ℕ → Type 0
 IsPlace t stream p = p ≡ firstOf (isHeldAs stream) (t .entries)
@@ -58,17 +66,19 @@ module _ {M : Type 1} (𝓤 : URA M) (H : Heap 𝓤) (A : Atoms 𝓤) (at-mem : 
 
   module _ (κ : Lft) (q : Share) (b o : ℕ) (γ : GName) (h : Table) (n : ℕ) where
     abbrev to-search : Search .Ghost
-    to-search = (((κ, tt), (q, tt), tt, (record { ptr = (b, o); name = γ; now = h }, (n, tt)), (vptr b o ∷ [], (vint w32 n ∷ [], tt))), tt)
+    to-search = (((κ, tt), (q, tt), tt, (ref b o γ h, (n, tt)), (vptr b o ∷ [], (vint w32 n ∷ [], tt))), tt)
 
     search-asked : Given 𝓤 H A → n < 2 ^ 32 → ent 𝓤 (⋆ 𝓤 H A (Shared 𝓤 κ q b o γ h)) (Search .pre to-search)
     search-asked W fits =
-        qed W (Shared 𝓤 κ q b o γ h) ∵ feqI ! (List Val) (vptr b o ∷ []) (vptr b o ∷ []) refl $ fjoin3 ! $ nothing ! $ number ! n fits $ fjoin ! $
-        move ! (1 ∷ 0 ∷ []) $ fjoin ! $ nothing ! $ move ! (2 ∷ 0 ∷ []) $ join ! $ join ! $ nothing ! $ move ! (1 ∷ 0 ∷ []) $ done !
+        qed W (Shared 𝓤 κ q b o γ h) ∵ feqI ! (List Val) (vptr b o ∷ []) (vptr b o ∷ []) refl $ fjoin3 ! $ nothing ! $
+        number ! n fits $ fjoin ! $ move ! (1 ∷ 0 ∷ []) $ fjoin ! $ nothing ! $
+        move ! (2 ∷ 0 ∷ []) $ join ! $ join ! $ nothing ! $ move ! (1 ∷ 0 ∷ []) $ done !
 
   free-asked : Given 𝓤 H A → ent 𝓤 (emp 𝓤) (Free .pre ((tt, tt, tt, tt, tt), tt))
   free-asked W = qed W [] ∵ nothing ! $ nothing ! $ nothing ! $ join ! $ done !
 
-  free-given : Given 𝓤 H A → (w : Val) → ent 𝓤 (Free .post ((tt, tt, tt, tt, tt), tt) w) (mean 𝓤 H A (Gives 𝓤 N.the-row (λ e. e ≡ freeEntry) w))
+  free-given : Given 𝓤 H A → (w : Val)
+      → ent 𝓤 (Free .post ((tt, tt, tt, tt, tt), tt) w) (mean 𝓤 H A (Gives 𝓤 N.the-row (λ e. e ≡ freeEntry) w))
   free-given W w =
       gives 𝓤 H A W N.the-row (λ e. e ≡ freeEntry) w (ensured 𝓤 H A free.ended (free.clauses 𝓤 H A at-mem run) tt tt tt)
       (λ e. exE 𝓤 _ (λ ws. snd∗ 𝓤 (sem 𝓤 H A (lasts free.ended tt tt ws)) (fact 𝓤 (e ≡ freeEntry))))
@@ -78,7 +88,8 @@ module _ {M : Type 1} {𝓤 : URA M} {H : Heap 𝓤} {A : Atoms 𝓤} (at-mem : 
   -- the search in a table that is lent as shared: the loan is given up, and its token comes back
   pub searches : Go {0} → FmC 𝓤 H (W .laws) C → Triple 𝓤 (C #host·place-in) (Search 𝓤 H A at-mem run)
       → {κ : Lft} {q : Share} {γ : GName} (b o : ℕ) (h : Table) (n : ℕ) → n < 2 ^ 32
-      → Opds (Go {0}) W (raw (Search 𝓤 H A at-mem run .pre (to-search 𝓤 H A at-mem run κ q b o γ h n)) ∷ Γ) E xs (vptr b o ∷ vint w32 n ∷ [])
+      → Opds (Go {0}) W (raw (Search 𝓤 H A at-mem run .pre (to-search 𝓤 H A at-mem run κ q b o γ h n)) ∷ Γ) E xs
+      (vptr b o ∷ vint w32 n ∷ [])
       → ((p : ℕ) → IsPlace h n p → p < 2 ^ 64 → Seq (Go {0}) W (‵ (flft κ q) ∷ Γ) (lands C Λ E d (vint w64 p) rest Q))
       → Seq (Go {0}) W (‵ (fres γ (lent h)) ∷ ‵ (look κ h b o) ∷ ‵ (flft κ q) ∷ Γ) (runs C Λ E (seq (call #host·place-in xs d) rest) Q)
   searches z fm known {κ} {q} {γ} b o h n fits os k =
@@ -86,10 +97,10 @@ module _ {M : Type 1} {𝓤 : URA M} {H : Heap 𝓤} {A : Atoms 𝓤} (at-mem : 
       (search-asked 𝓤 H A at-mem run κ q b o γ h n W fits) $
       calls-at ! fm (Search 𝓤 H A at-mem run) known (to-search 𝓤 H A at-mem run κ q b o γ h n) os (λ w.
       use1 W (later (some (λ (p : ℕ). ((‵ (flft κ q) ⊛ ‵ ftrue) ⊛ ‵ (usize .own p (w ∷ [])))
-      ⊛ raw (ensured 𝓤 H A search.ended (search.clauses 𝓤 H A at-mem run) (κ, tt) (record { ptr = (b, o); name = γ; now = h }, (n, tt)) tt p))))
+      ⊛ raw (ensured 𝓤 H A search.ended (search.clauses 𝓤 H A at-mem run) (κ, tt) (ref b o γ h, (n, tt)) tt p))))
       (id⊢ 𝓤 _) $ await ! tt $ pick ! (λ p. split ! $ move ! (1 ∷ []) $
       use1 W (raw (fact 𝓤 (IsPlace h n p)))
-      (exE 𝓤 _ (λ ws. snd∗ 𝓤 (sem 𝓤 H A (lasts search.ended (κ, tt) (record { ptr = (b, o); name = γ; now = h }, (n, tt)) ws))
+      (exE 𝓤 _ (λ ws. snd∗ 𝓤 (sem 𝓤 H A (lasts search.ended (κ, tt) (ref b o γ h, (n, tt)) ws))
       (fact 𝓤 (IsPlace h n p)))) $ heard ! (IsPlace h n p) (λ e. split ! $ move ! (1 ∷ []) $
       facts ! usize (Is usize) (shows 𝓤 H A usize) p (w ∷ []) (λ is. split ! $ move ! (1 ∷ []) $ drop ! $
       regoal ! (λ v. lands C Λ E d v rest Q) (ap only (is .0)) refl $ k p e (is .1)))))
@@ -115,7 +126,7 @@ module _ {M : Type 1} {𝓤 : URA M} {H : Heap 𝓤} {A : Atoms 𝓤} (at-mem : 
       → Seq (Go {0}) W (‵ (tableAt fullShare h b o) ∷ Γ) (runs C Λ E (seq (call #host·place-in xs d) rest) Q)
   searches-whole z fm known b o h n fits os k =
       lft-new ! tt (λ α. move ! (1 ∷ []) $
-      use1 W (later (some (λ (γ : GName). ‵ (ShrRef (named 0) (α ∷ []) T.the-row .own (record { ptr = (b, o); name = γ; now = h }) (vptr b o ∷ []))
+      use1 W (later (some (λ (γ : GName). ‵ (ShrRef (named 0) (α ∷ []) T.the-row .own (ref b o γ h) (vptr b o ∷ []))
       ⊛ ‵ (flent (α ∷ []) (tableAt fullShare h b o))))) (lends-shr 𝓤 H A W T.the-row (named 0) (α ∷ []) fullShare h b o) $ await ! tt $
       pick ! (λ γ. split ! $ fsplit3 ! $ drop ! $ move ! (0 ∷ 1 ∷ 3 ∷ []) $
       searches at-mem run ! fm known b o h n fits (os α γ) (λ p e f. lft-end ! tt $ lent-back ! tt $ k p e f)))

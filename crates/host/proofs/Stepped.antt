@@ -25,7 +25,7 @@ use Rattle.model.proofs.Table.Laws as T′
 use Rattle.host.specs.declared.Answered.{Answered}
 use Rattle.host.proofs.Answered as R
 use Rattle.host.proofs.Answered.Laws as R′
-use Rattle.host.proofs.Steps.{Gives}
+use Rattle.host.proofs.Walk.{Gives}
 use Rattle.host.proofs.Lent.{machine, lent, loan, open-loan, table-copied, table-stored}
 
 module _ {M : Type 1} {𝓤 : URA M} {H : Heap 𝓤} {A : Atoms 𝓤} {W : Given 𝓤 H A} {Γ : List (Item 𝓤)} {κ : Lft} {q : Share} {γ : GName}
@@ -36,7 +36,8 @@ module _ {M : Type 1} {𝓤 : URA M} {H : Heap 𝓤} {A : Atoms 𝓤} {W : Given
     -- P is what the call asks beside the table
     pub table-stepped : Go {0} → (h : Table) → FmC 𝓤 H (W .laws) C → {f : Name} {xs : List Operand} (vs : List Val)
         (φ : Answered → Type 0) (P : SProp 𝓤) (K : Val → SProp 𝓤)
-        → ent 𝓤 (sep 𝓤 (sem 𝓤 H A (T.the-row .own h (machine h ∷ []))) P) (C f vs K) → ((w : Val) → ent 𝓤 (K w) (mean 𝓤 H A (Gives 𝓤 R.the-row φ w)))
+        → ent 𝓤 (sep 𝓤 (sem 𝓤 H A (T.the-row .own h (machine h ∷ []))) P) (C f vs K)
+        → ((w : Val) → ent 𝓤 (K w) (mean 𝓤 H A (Gives 𝓤 R.the-row φ w)))
         → Opds (Go {0}) W ((‵ (T.the-row .own h (machine h ∷ [])) ⊛ raw P) ∷ ‵ (fat fullShare T′.mir b o (machine h))
         ∷ ‵ (open-loan κ q b o γ) ∷ ‵ (fobs γ (lent h)) ∷ ‵ (fauth γ (lent h)) ∷ ‵ (fat fullShare T′.mir m 0 (machine h))
         ∷ ‵ (fat fullShare ρ l₁ 0 (vptr b o)) ∷ ‵ (froom R′.mir l 0) ∷ ‵ (froom (tyInt w32) l₀ 0) ∷ Γ) E xs vs

@@ -80,9 +80,13 @@ fn offer_step(
 fn place_in(table: &Table, stream: u32) -> usize
     ensures { λ r. ⌜ r ≡ firstOf (isHeldAs stream) (now (table .entry) .entries) ⌝ }
 {
+    // Stream 0 stands for a free place, and is held by nobody.
+    if stream == 0 {
+        return 32;
+    }
     for i in 0..32 {
         let e = table.entries[i];
-        if survey::is_held_as(e, stream) {
+        if e.stream == stream {
             return i;
         }
     }

@@ -9,7 +9,7 @@ use native.Mathlib.Nat.{not-suc-le-zero, le-of-suc-le-suc}
 use native.Mathlib.Omega.{arith}
 use lib.Dec.{ltb, leb, eqb}
 use lib.ListN.{length, getD, set}
-use borrow.Author.Tests.{eqb-true, eq-eqb, ne-eqb, leb-true, le-leb}
+use borrow.Author.Tests.{ltb-false, eqb-true, eq-eqb, ne-eqb, leb-true, le-leb}
 use Rattle.lists.specs.Lists.{one-if, cons-if, keep, sumOf, anyOf}
 use Rattle.lists.specs.Tests.{clash, same-test, and-false}
 use Rattle.lists.specs.All.{all-of, map-ext}
@@ -70,8 +70,8 @@ place-none s (e ∷ es) h = go (isHeldAs s e) h (λ k. place-none s es k) ∙ en
     go false h r = r (le-of-suc-le-suc h)
 
 -- a stream number that is held is not 0, so whoever has it holds its place
-named : (s : ℕ) → s ≢ 0 → (e : Entry) → isHeldAs s e ≡ isStream s e
-named s n e = go (isStream s e) refl
+pub held-by-number : (s : ℕ) → s ≢ 0 → (e : Entry) → isHeldAs s e ≡ isStream s e
+held-by-number s n e = go (isStream s e) refl
   where
     go : (b : Bool) → isStream s e ≡ b → (isHeld e && b) ≡ b
     go true q = ap (λ b. not b && true) (ne-eqb (e .stream) 0 (λ z. n (sym (eqb-true (e .stream) s q) ∙ z)))
@@ -84,6 +84,12 @@ nobody-0 (e ∷ es) = go (eqb (e .stream) 0) (nobody-0 es)
     go : (b : Bool) → anyOf (isHeldAs 0) es ≡ false → ((not b && b) || anyOf (isHeldAs 0) es) ≡ false
     go true h = h
     go false h = h
+
+-- nobody's place is none
+pub place-nobody : (es : List Entry) → firstOf (isHeldAs 0) es ≡ length es
+place-nobody es =
+    let over = ltb-false (firstOf (isHeldAs 0) es) (length es) (first-some (isHeldAs 0) es ∙ nobody-0 es) in
+    omega (arith, first-most (isHeldAs 0) es)
 
 held-once : (s : ℕ) (es : List Entry) → Once (keep isHeld es) → sumOf (λ e. one-if (isHeldAs s e)) es ≤ 1
 held-once s es w =
@@ -105,7 +111,7 @@ pub place-freed : (t : Table) (s : ℕ) → Once (heldOf t) → holds t s ≡ tr
 place-freed t s w h =
     first-set (isHeldAs s) freeEntry (t .entries) (held-once s (t .entries) w)
     ∙ map-ext (λ e. cond (isHeldAs s e) freeEntry e) (λ e. cond (isStream s e) freeEntry e)
-    (all-of (t .entries) (λ e. ap (λ b. cond b freeEntry e) (named s somebody e)))
+    (all-of (t .entries) (λ e. ap (λ b. cond b freeEntry e) (held-by-number s somebody e)))
   where
     somebody : s ≢ 0
     somebody z =

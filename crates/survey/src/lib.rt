@@ -23,7 +23,7 @@ use model::Slots;
 use model::Table;
 
 // Stream 0 stands for a free place, and is held by nobody.
-pub fn is_held_as(e: Entry, stream: u32) -> bool
+fn is_held_as(e: Entry, stream: u32) -> bool
     ensures { λ r. ⌜ r ≡ isHeldAs stream e ⌝ }
 {
     let own = e.stream;

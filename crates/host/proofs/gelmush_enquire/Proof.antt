@@ -13,7 +13,7 @@ use prog.Memory.{Memory}
 use prog.Routine.{Routine}
 use prog.Wp.{Heap, WpFn, Tables}
 use ghost.Atoms.{Atoms}
-use contract.Monad.{Fun, fact}
+use contract.Monad.{Fun}
 use contract.Running.{givenOf, tables, tablesOf}
 use types.Kit.{Given, ‵, raw, ⋆, _$_, _∵_, !, qed, by, move}
 use types.Run.{look, init, stop, from, load, lit, of-opd, bin, and-then, no-more, assigns, land}
@@ -31,8 +31,6 @@ use borrow.Author.Tests.{lt-ltb, le-ltb}
 use Rattle.model.specs.Entries.{freeEntry}
 use Rattle.model.specs.declared.Entry.{Entry}
 use Rattle.model.specs.declared.Table.{Table}
-use Rattle.model.proofs.Entry as N
-use Rattle.model.proofs.Entry.Laws as N′
 use Rattle.model.proofs.free_entry.Symbol as free-def
 use Rattle.model.proofs.free_entry.Symbol.{name as #model·free-entry}
 use Rattle.model.proofs.free_entry.Met as free-thm
@@ -43,11 +41,11 @@ use Rattle.planner.specs.Held.{held-answer, held-entry, none-entry}
 use Rattle.host.specs.declared.Found.{Found}
 use Rattle.host.proofs.Found as F
 use Rattle.host.proofs.Found.Laws as F′
-use Rattle.host.proofs.Lent.{lent, gone}
-use Rattle.host.proofs.Steps.{tests}
-use Rattle.host.proofs.Entries.{at-place, IsEntry, entry-reached, entry-read}
+use Rattle.host.proofs.Lent.{lent, Typed, gone}
+use Rattle.host.proofs.Walk.{tests}
+use Rattle.host.proofs.Entries.{at-place, IsEntry, typed-entry, entry-reached, entry-read}
 use Rattle.host.proofs.Looked.{look as loan, Post, exits, look-meets, look-opens, look-shuts}
-use Rattle.host.proofs.Search.{IsPlace, Search, Free, searches, frees-entry}
+use Rattle.host.proofs.Search.{Formed, IsPlace, Search, Free, searches, frees-entry}
 use Rattle.host.proofs.place_in.Symbol as search-def
 use Rattle.host.proofs.place_in.Symbol.{name as #host·place-in}
 use Rattle.host.proofs.place_in.Met as search-thm
@@ -69,6 +67,10 @@ foundVal a e = LL.val F.the-type F′.the-laws (found a e)
 is-found : (a : ℕ) (e : Entry) → a < 2 ^ 32 → IsEntry e → Is F.the-row (found a e) (foundVal a e ∷ [])
 is-found a e f is = LL.owes F.the-type F′.the-laws (found a e) ((refl, f), (is, tt))
 
+typed-found : {M : Type 1} (𝓤 : URA M) (H : Heap 𝓤) (A : Atoms 𝓤) → Given 𝓤 H A → (a : ℕ) (e : Entry) → a < 2 ^ 32 → IsEntry e
+    → Typed F′.mir (foundVal a e)
+typed-found 𝓤 H A W a e f is = LL.lawful F.the-type F′.the-laws 𝓤 H A W .typed (found a e) _ (is-found a e f is) .0
+
 -- the place p is that of the stream n
 module _ (h : Table) (n : ℕ) (formed : WellFormed h) (p : ℕ) (e : IsPlace h n p) where
   shows : p < places → Says h n (found 0 (at-place h p))
@@ -78,25 +80,23 @@ module _ (h : Table) (n : ℕ) (formed : WellFormed h) (p : ℕ) (e : IsPlace h 
   misses l = (held-answer h formed n e (rw (le-ltb p places l)), none-entry h formed n e l)
 
 module _ {M : Type 1} (𝓤 : URA M) (H : Heap 𝓤) (A : Atoms 𝓤) (at-mem : Memory → SProp 𝓤) (run : Routine → Fun 𝓤) where
-  abbrev Asks : Table → ℕ → SProp 𝓤
-  Asks t n = fact 𝓤 (WellFormed t)
-
   module _ (W : Given 𝓤 H A) (𝓣 : Tables 𝓤 H) (search : Triple 𝓤 (𝓣 .C #host·place-in) (Search 𝓤 H A at-mem run))
       (free : Triple 𝓤 (𝓣 .C #model·free-entry) (Free 𝓤 H A at-mem run))
       (κ : Lft) (q : Share) (b o : ℕ) (γ : GName) (h : Table) (n : ℕ) (fits : n < 2 ^ 32) where
     abbrev Ends : Val → SProp 𝓤
-    Ends = Post 𝓤 F.the-row Asks Says H A W κ q b o γ h n
+    Ends = Post 𝓤 F.the-row (Formed 𝓤) Says H A W κ q b o γ h n
 
     ends : (a : ℕ) (e : Entry) → a < 2 ^ 32 → IsEntry e → Says h n (found a e)
         → ent 𝓤 (⋆ 𝓤 H A (‵ (fres γ (lent h)) ∷ ‵ (loan κ h b o) ∷ ‵ (flft κ q) ∷ [])) (Ends (foundVal a e))
     ends a e f is so =
-        exits 𝓤 F.the-row Asks Says H A W κ q b o γ h n fits (LL.makes F.the-type F′.the-plain 𝓤 H A) (found a e) (foundVal a e) so
+        exits 𝓤 F.the-row (Formed 𝓤) Says H A W κ q b o γ h n fits (LL.makes F.the-type F′.the-plain 𝓤 H A) (found a e) (foundVal a e) so
         (is-found a e f is)
 
-    walk : ent 𝓤 (⋆ 𝓤 H A (‵ (fres γ (lent h)) ∷ ‵ (loan κ h b o) ∷ ‵ (flft κ q) ∷ raw (Asks h n) ∷ []))
+    -- In the comments on contexts, _n is the cell of the n-th local, or room for it, and …n is what frees it.
+    walk : ent 𝓤 (⋆ 𝓤 H A (‵ (fres γ (lent h)) ∷ ‵ (loan κ h b o) ∷ ‵ (flft κ q) ∷ raw (Formed 𝓤 h n) ∷ []))
         (WpFn 𝓤 H (𝓣 .C) (𝓣 .Λ) code.function (vptr b o ∷ vint w32 n ∷ []) Ends)
     walk =
-        qed W (‵ (fres γ (lent h)) ∷ ‵ (loan κ h b o) ∷ ‵ (flft κ q) ∷ raw (Asks h n) ∷ []) ∵
+        qed W (‵ (fres γ (lent h)) ∷ ‵ (loan κ h b o) ∷ ‵ (flft κ q) ∷ raw (Formed 𝓤 h n) ∷ []) ∵
         move ! (3 ∷ []) $ heard ! (WellFormed h) (λ formed. res-dup ! $ move ! (2 ∷ []) $ shr-bor-dup ! $
         enter ! (𝓣 .C) (𝓣 .Λ) code.function (vptr b o ∷ vint w32 n ∷ []) _ $
         alloc1 ! (λ l₀. alloc1 ! (λ l₁. alloc1 ! (λ l₂. alloc1 ! (λ l₃. alloc1 ! (λ l₄. alloc1 ! (λ l₅. alloc1 ! (λ l₆. alloc1 ! (λ l₇.
@@ -104,22 +104,24 @@ module _ {M : Type 1} (𝓤 : URA M) (H : Heap 𝓤) (A : Atoms 𝓤) (at-mem : 
         pass1 ! (init ! 18 refl (tt, tt)) $ pass1 ! (init ! 16 refl (tt, record { fits = fits })) $ pass0 ! $
         -- [_10; …10; _9; …9; _8; …8; _7; …7; _6; …6; _5; …5; _4; …4; _3; …3; _2; …2; _1; …1; _0; …0; the loan twice; res twice; the token]
         move ! (24 ∷ 22 ∷ 26 ∷ []) $ searches at-mem run ! (fmOf 𝓤 H (W .laws) 𝓣) search b o h n fits
-        (and-then ! (load ! (from ! (stop !)) (look ! 19 refl)) (and-then ! (load ! (from ! (stop !)) (look ! 17 refl)) (no-more !))) (λ p e f.
+        (and-then ! (load ! (from ! (stop !)) (look ! 19 refl)) (and-then ! (load ! (from ! (stop !)) (look ! 17 refl)) (no-more !)))
+        (λ p e f.
         -- [the token; _10; …10; …; _0; …0; the loan; res]
         land ! (from ! (stop !)) (init ! 15 refl (tt, record { fits = f })) $
         assigns ! (bin ! (load ! (from ! (stop !)) (look ! 15 refl)) (lit ! tt) tt) (from ! (stop !)) (init ! 9 refl (tt, tt)) $
         tests ! (load ! (from ! (stop !)) (look ! 9 refl))
         (λ on.
         move ! (23 ∷ 0 ∷ []) $ look-opens h b o ! tt (λ s vs was.
-        -- [the table; the open loan; the loan; _10; …10; _9; …9; _8; …8; _7; …7; _6; …6; _5; …5; _4; …4; _3; …3; _2; …2; _1; …1; _0; …0; res]
+        -- [the table; the open loan; the loan; _10; …10; _9; …9; …; _0; …0; res]
         move ! (21 ∷ 17 ∷ 9 ∷ 7 ∷ 5 ∷ []) $ entry-reached b o p ! (ltb→lt p 32 on) refl refl refl refl refl $
-        -- [_1; _3; _7; _8; _9; the table; the open loan; the loan; _10; …10; …9; …8; …7; _6; …6; _5; …5; _4; …4; …3; _2; …2; …1; _0; …0; res]
+        -- [_1; _3; _7; _8; _9; the table; the open loan; the loan; _10; …]
         move ! (5 ∷ 4 ∷ 8 ∷ []) $ entry-read b o p ! (ltb→lt p 32 on) refl refl s h (λ is.
-        let typed = LL.lawful N.the-type N′.the-laws 𝓤 H A W .typed (at-place h p) _ is .0 in
-        -- [the table; _9; _10; _1; _3; _7; _8; the open loan; the loan; …10; …9; …8; …7; _6; …6; _5; …5; _4; …4; …3; _2; …2; …1; _0; …0; res]
-        assigns ! (of-opd ! (load ! (from ! (stop !)) (look ! 2 refl))) (from ! (stop !)) (init ! 17 refl typed) $
+        -- [the table; _9; _10; _1; _3; _7; _8; the open loan; the loan; …10; …9; …8; …7; _6; …6; _5; …5; _4; …4; …3; _2; …2; …1; _0; …0;
+        -- res]
+        assigns ! (of-opd ! (load ! (from ! (stop !)) (look ! 2 refl))) (from ! (stop !))
+        (init ! 17 refl (typed-entry 𝓤 H A W (at-place h p) is)) $
         assigns ! (agg ! (and-then ! (lit ! tt) (and-then ! (load ! (from ! (stop !)) (look ! 17 refl)) (no-more !)))) (from ! (stop !))
-        (init ! 23 refl (LL.lawful F.the-type F′.the-laws 𝓤 H A W .typed (found 0 (at-place h p)) _ (is-found 0 (at-place h p) (lit< tt) is) .0)) $
+        (init ! 23 refl (typed-found 𝓤 H A W 0 (at-place h p) (lit< tt) is)) $
         move ! (0 ∷ 7 ∷ []) $ look-shuts h b o ! tt s $
         -- [the token; _9; _10; _1; _3; _7; _8; the loan; …10; …9; …8; …7; _6; …6; _5; …5; _4; …4; …3; _2; …2; …1; _0; …0; res]
         returns-within ! Ends refl (look ! 22 refl) $
@@ -128,9 +130,9 @@ module _ {M : Type 1} (𝓤 : URA M) (H : Heap 𝓤) (A : Atoms 𝓤) (at-mem : 
         move ! (2 ∷ 1 ∷ 0 ∷ []) $ by ! (ends 0 (at-place h p) (lit< tt) is (shows h n formed p e (ltb→lt p 32 on))))))
         (λ off.
         frees-entry at-mem run ! (fmOf 𝓤 H (W .laws) 𝓣) free (no-more !) (λ is.
-        land ! (from ! (stop !)) (init ! 11 refl (LL.lawful N.the-type N′.the-laws 𝓤 H A W .typed freeEntry _ is .0)) $
+        land ! (from ! (stop !)) (init ! 11 refl (typed-entry 𝓤 H A W freeEntry is)) $
         assigns ! (agg ! (and-then ! (lit ! tt) (and-then ! (load ! (from ! (stop !)) (look ! 11 refl)) (no-more !)))) (from ! (stop !))
-        (init ! 21 refl (LL.lawful F.the-type F′.the-laws 𝓤 H A W .typed (found 20 freeEntry) _ (is-found 20 freeEntry (lit< tt) is) .0)) $
+        (init ! 21 refl (typed-found 𝓤 H A W 20 freeEntry (lit< tt) is)) $
         returns ! (look ! 21 refl) $
         move ! (21 ∷ 22 ∷ 19 ∷ 20 ∷ 17 ∷ 18 ∷ 15 ∷ 16 ∷ 13 ∷ 14 ∷ 11 ∷ 12 ∷ 9 ∷ 10 ∷ 7 ∷ 8 ∷ 5 ∷ 6 ∷ 3 ∷ 4 ∷ 1 ∷ 2 ∷ []) $
         gone ! $ gone ! $ gone ! $ gone ! $ free1 ! $ gone ! $ gone ! $ free1 ! $ free1 ! $ free1 ! $ free1 ! $ free0 ! $
@@ -143,7 +145,7 @@ gelmush-enquire-spec 𝓤 H 𝓜 𝓖 𝓡 =
     let 𝓣 = tablesOf 𝓤 H 𝓜 (tables 𝓤 H 𝓜 𝓡 code.env) in
     entered 𝓤 H (tripleOf 𝓤 H (𝓖 .A) lent′.signature (lent′.spec 𝓤 H (𝓖 .A) (𝓜 .mem) (𝓡 .run)))
     (tables 𝓤 H 𝓜 𝓡 code.env .C) (tables 𝓤 H 𝓜 𝓡 code.env .Λ) #host·gelmush-enquire code.function (code.unfolded 𝓤 H 𝓜 𝓡)
-    (look-meets 𝓤 F.the-row (Asks 𝓤 H (𝓖 .A) (𝓜 .mem) (𝓡 .run)) Says H (𝓖 .A) W 𝓣 code.function (walk 𝓤 H (𝓖 .A) (𝓜 .mem) (𝓡 .run) W 𝓣
+    (look-meets 𝓤 F.the-row (Formed 𝓤) Says H (𝓖 .A) W 𝓣 code.function (walk 𝓤 H (𝓖 .A) (𝓜 .mem) (𝓡 .run) W 𝓣
     (cited 𝓤 H (Search 𝓤 H (𝓖 .A) (𝓜 .mem) (𝓡 .run)) 𝓜 𝓡 code.env #host·place-in search-def.routine code.calls-host·place-in
     (search-thm.met 𝓤 H 𝓜 𝓖 𝓡))
     (cited 𝓤 H (Free 𝓤 H (𝓖 .A) (𝓜 .mem) (𝓡 .run)) 𝓜 𝓡 code.env #model·free-entry free-def.routine code.calls-model·free-entry

@@ -40,7 +40,7 @@ use Rattle.planner.specs.Numbers.{request}
 use Rattle.host.specs.declared.Answered.{Answered}
 use Rattle.host.proofs.Lent.{machine, Lent, number, gone}
 use Rattle.host.proofs.Answered as R
-use Rattle.host.proofs.Steps.{Gives, gives}
+use Rattle.host.proofs.Walk.{Gives, gives}
 use Rattle.host.proofs.Stepped.{table-stepped}
 use Rattle.host.proofs.offer_step as step
 use Rattle.host.proofs.offer_step.Symbol as step-def

@@ -45,7 +45,7 @@ use Rattle.planner.proofs.empty_table.Symbol.{name as #planner·empty-table}
 use Rattle.planner.proofs.empty_table.Met as empty-thm
 use Rattle.rules.specs.Calls.{openAnswer, opened}
 use Rattle.host.proofs.Lent.{machine, lent, loan, number, large, gone, table-opens, table-closes}
-use Rattle.host.proofs.Steps.{Gives, gives, is-true, is-false, calls-value, tests}
+use Rattle.host.proofs.Walk.{Gives, gives, is-true, is-false, calls-value, tests}
 use Rattle.host.proofs.Number.{Post, exits, loan-meets}
 use Rattle.host.proofs.gelmush_open.Key.{name as #host·gelmush-open}
 use Rattle.host.proofs.gelmush_open as lent′
@@ -82,7 +82,8 @@ module _ {M : Type 1} (𝓤 : URA M) (H : Heap 𝓤) (A : Atoms 𝓤) (at-mem : 
 
     within-given : (w : Val) → ent 𝓤 (Within .post to-within w) (mean 𝓤 H A (Gives 𝓤 Boolean (λ r. r ≡ within 1 1000 n) w))
     within-given w =
-        gives 𝓤 H A W Boolean (λ r. r ≡ within 1 1000 n) w (ensured 𝓤 H A within′.ended (within′.clauses 𝓤 H A at-mem run) tt (1, (1000, (n, tt))) tt)
+        gives 𝓤 H A W Boolean (λ r. r ≡ within 1 1000 n) w
+        (ensured 𝓤 H A within′.ended (within′.clauses 𝓤 H A at-mem run) tt (1, (1000, (n, tt))) tt)
         (λ r. exE 𝓤 _ (λ ws. snd∗ 𝓤 (sem 𝓤 H A (lasts within′.ended tt (1, (1000, (n, tt))) ws)) (fact 𝓤 (r ≡ within 1 1000 n))))
 
     abbrev to-empty : Empty .Ghost
@@ -100,6 +101,7 @@ module _ {M : Type 1} (𝓤 : URA M) (H : Heap 𝓤) (A : Atoms 𝓤) (at-mem : 
     abbrev Ends : Val → SProp 𝓤
     Ends = Post 𝓤 (λ t n. emp 𝓤) Says H A W κ q b o γ h n
 
+    -- In the comments on contexts, _n is the cell of the n-th local, or room for it, and …n is what frees it.
     walk : Triple 𝓤 (𝓣 .C #ranges·is-within) Within → Triple 𝓤 (𝓣 .C #planner·empty-table) Empty → n < 2 ^ 32
         → ent 𝓤 (⋆ 𝓤 H A (‵ (fobs γ (lent h)) ∷ ‵ (loan κ b o γ) ∷ ‵ (flft κ q) ∷ raw (emp 𝓤) ∷ []))
         (WpFn 𝓤 H (𝓣 .C) (𝓣 .Λ) code.function (vptr b o ∷ vint w32 n ∷ []) Ends)
@@ -118,8 +120,8 @@ module _ {M : Type 1} (𝓤 : URA M) (H : Heap 𝓤) (A : Atoms 𝓤) (at-mem : 
         let slots : 1024 * n < 2 ^ 32 = search (needs, within-both 1 1000 n in-range) in
         assigns ! (bin ! (large ! (record { fits = lit< tt })) (load ! (from ! (stop !)) (look ! 6 refl)) (record { fits = slots }))
         (from ! (stop !)) (init ! 0 refl (tt, record { fits = slots })) $
-        calls-value ! (fmOf 𝓤 H (W .laws) 𝓣) T.the-row machine (LL.tells T.the-type T′.the-laws) (λ t. t ≡ noneHeld (1024 * n)) Empty known-empty
-        (to-empty W (1024 * n) slots) (empty-asked W (1024 * n) slots) (empty-given W (1024 * n) slots)
+        calls-value ! (fmOf 𝓤 H (W .laws) 𝓣) T.the-row machine (LL.tells T.the-type T′.the-laws) (λ t. t ≡ noneHeld (1024 * n))
+        Empty known-empty (to-empty W (1024 * n) slots) (empty-asked W (1024 * n) slots) (empty-given W (1024 * n) slots)
         (and-then ! (load ! (from ! (stop !)) (look ! 1 refl)) (no-more !)) (λ t made is-table.
         let typed = LL.lawful T.the-type T′.the-laws 𝓤 H A W .typed t _ is-table .0 in
         land ! (from ! (stop !)) (init ! 2 refl typed) $ move ! (12 ∷ 13 ∷ 14 ∷ []) $ table-opens b o ! tt h (λ was.
@@ -133,8 +135,8 @@ module _ {M : Type 1} (𝓤 : URA M) (H : Heap 𝓤) (A : Atoms 𝓤) (at-mem : 
         keep ! (0 ∷ 1 ∷ 2 ∷ []) $ by ! (exits 𝓤 (λ t n. emp 𝓤) Says H A W κ q b o γ h n fits 0 t (opens h n t in-range made) (lit< tt)))))
         (λ off.
         assigns ! (of-opd ! (lit ! tt)) (from ! (stop !)) (init ! 10 refl (tt, record { fits = lit< tt })) $ returns ! (look ! 10 refl) $
-        move ! (10 ∷ 11 ∷ 8 ∷ 9 ∷ 6 ∷ 7 ∷ 4 ∷ 5 ∷ []) $ gone ! $ gone ! $ gone ! $ gone ! $ move ! (2 ∷ 3 ∷ []) $ free1 ! $ free1 ! $ free0 ! $
-        keep ! (0 ∷ 1 ∷ 2 ∷ []) $
+        move ! (10 ∷ 11 ∷ 8 ∷ 9 ∷ 6 ∷ 7 ∷ 4 ∷ 5 ∷ []) $ gone ! $ gone ! $ gone ! $ gone ! $
+        move ! (2 ∷ 3 ∷ []) $ free1 ! $ free1 ! $ free0 ! $ keep ! (0 ∷ 1 ∷ 2 ∷ []) $
         by ! (exits 𝓤 (λ t n. emp 𝓤) Says H A W κ q b o γ h n fits 1 h (refuses h n (sym e ∙ is-false r off)) (lit< tt))))))))))
 
 pub gelmush-open-spec : {M : Type 1} → stated.statement M
