@@ -10,6 +10,8 @@ use Rattle.rules.specs.Slots.{Run}
 use Rattle.rules.specs.Calls.{mostRecords, wordsOf, planOf, advanced, Beacon, beacon, plannedBeacon}
 use Rattle.rules.specs.WellFormed.{WellFormed}
 use Rattle.interval.specs.Plan.{plan-right}
+use Rattle.share.specs.declared.Shares.{Shares}
+use Rattle.planner.specs.Changes.{Moves}
 use Rattle.printing.specs.Printed.{slotRows}
 use Rattle.answers.specs.Meaning.{slotRowOf}
 use Rattle.answers.specs.Room.{planWords}
@@ -24,24 +26,25 @@ unfolding slotRows wordsOf
 rows-of-words [] ws = refl
 rows-of-words (r ∷ rs) ws = ap (λ l. slotRowOf r ++ l) (rows-of-words rs ws)
 
--- what a call gives that meets the beacon's contract
-pub record Made (t : Table) (ws : List ℕ) (answer count : ℕ) (table : Table) (words : List ℕ) : Type 0 where
+-- what a call gives that meets the contract of planning an interval
+pub record Made (t : Table) (ws : List ℕ) (answer count used : ℕ) (shares : Shares) (words : List ℕ) : Type 0 where
   pub accepted : answer ≡ 0
   pub few : count ≤ mostRecords
-  pub after : table ≡ advanced t
+  pub after : Moves t used shares (advanced t)
   pub memory : words ≡ beacon t ws .words
   pub rows : slotRows count words ≡ concatMap slotRowOf (planOf t)
 
-pub made : {t : Table} {ws : List ℕ} {answer count : ℕ} {table : Table} {words : List ℕ} → WellFormed t → planWords ≤ length ws
-    → (answer ≡ beacon t ws .answer) × ((count ≡ beacon t ws .count) × ((table ≡ beacon t ws .table) × (words ≡ beacon t ws .words)))
-    → Made t ws answer count table words
-made {t} {ws} w h (a, (n, (u, v))) =
+pub made : {t : Table} {ws : List ℕ} {answer count used : ℕ} {shares : Shares} {words : List ℕ} → WellFormed t → planWords ≤ length ws
+    → (answer ≡ beacon t ws .answer) × ((count ≡ beacon t ws .count)
+    × ((words ≡ beacon t ws .words) × Moves t used shares (beacon t ws .table)))
+    → Made t ws answer count used shares words
+made {t} {ws} {used = used} {shares} w h (a, (n, (v, m))) =
     let p = planned t ws h in
     let count-is = n ∙ ap (λ (b : Beacon). b .count) p in
     record {
       accepted = a ∙ ap (λ (b : Beacon). b .answer) p;
       few = subst (λ k. k ≤ mostRecords) (sym count-is) (plan-right t w .few);
-      after = u ∙ ap (λ (b : Beacon). b .table) p;
+      after = subst (Moves t used shares) (ap (λ (b : Beacon). b .table) p) m;
       memory = v;
       rows = ap₂ slotRows count-is (v ∙ ap (λ (b : Beacon). b .words) p) ∙ rows-of-words (planOf t) _;
     }

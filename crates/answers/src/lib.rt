@@ -1,14 +1,21 @@
-// A row's call, and the rows of its answer in lent memory.
+// A row's call, and the rows of its answer in lent memory. A call reads the table and gives back what is to be put in it: the caller
+// changes its own table in its place.
 ghost use mathlib.Core.Path.{_≡_};
 ghost use Prim.Native.Nat.{_+_, _≤_};
+ghost use lib.Dec.{eqb};
 ghost use lib.ListN.{length};
-ghost use Rattle.commands.specs.declared.Command.the-variants.{Open, Offer, Withdraw, Beacon};
-ghost use Rattle.printing.specs.Printed.{written};
+ghost use Rattle.model.specs.Entries.{freeEntry};
+ghost use Rattle.rules.specs.Calls.{places, openAnswer};
+ghost use Rattle.planner.specs.Changes.{putIn, Moves};
+ghost use Rattle.commands.specs.Commands.{openVerb, beaconVerb};
+ghost use Rattle.commands.specs.declared.Command.the-variants.{Offer, Withdraw, Beacon};
+ghost use Rattle.printing.specs.Printed.{plainRow, written};
 ghost use Rattle.answers.specs.Meaning.{stateAfter, planAfter, rowsFor};
-ghost use Rattle.answers.specs.Room.{planWords, answerMost, Ready};
-use commands::Command;
+ghost use Rattle.answers.specs.Room.{planWords, answerMost, stateOf, Ready};
+use model::Entry;
 use model::Request;
 use model::Table;
+use share::Shares;
 
 // The table, where an opening has succeeded.
 pub struct State {
@@ -16,132 +23,144 @@ pub struct State {
     pub table: Table,
 }
 
-// The state after a row's call, and the place after its answer's rows.
-pub struct Answered {
-    pub state: State,
+// ---- an opening
+// The place after its row, and whether there is a new table.
+pub struct Opening {
     pub at: usize,
+    pub succeeded: bool,
 }
 
-// ---- one call and its rows
-// Refused, an opening leaves the table of the one before it.
-fn answer_open(s: State, units: u32, out: &mut [u8], at: usize) -> Answered
+pub fn answer_open(units: u32, out: &mut [u8], at: usize) -> Opening
     requires { ⌜ at + answerMost ≤ length (now out) ⌝ }
-    ensures { λ r. let c = Open units in let bs = rowsFor s c in
-        ⌜ (r .state ≡ stateAfter s c) × ((r .at ≡ at + length bs) × (now (out .exit) ≡ written (now (out .entry)) at bs)) ⌝ }
+    ensures { λ r. let bs = plainRow openVerb (openAnswer units) in
+        ⌜ (r .succeeded ≡ eqb (openAnswer units) 0) × ((r .at ≡ at + length bs) × (now (out .exit) ≡ written (now (out .entry)) at bs)) ⌝ }
 {
-    let o = planner::open(units);
-    let answer = o.answer;
+    let answer = planner::open_answer(units);
     let number = refusals::open_number(answer);
     let next = printing::plain_row(out, at, b"open", number);
-    if number == 0 {
-        let table = o.table;
-        let state = State { ready: true, table };
-        return Answered { state, at: next };
+    Opening {
+        at: next,
+        succeeded: number == 0,
     }
-    Answered { state: s, at: next }
 }
 
-fn answer_offer(s: State, q: Request, out: &mut [u8], at: usize) -> Answered
-    requires { ⌜ Ready s ⌝ }
-    requires { ⌜ at + answerMost ≤ length (now out) ⌝ }
-    ensures { λ r. let c = Offer q in let bs = rowsFor s c in
-        ⌜ (r .state ≡ stateAfter s c) × ((r .at ≡ at + length bs) × (now (out .exit) ≡ written (now (out .entry)) at bs)) ⌝ }
+// ---- an offer and a withdrawal
+// The place after its row, and the entry that it puts in the table, at a place there. Place 32 stands for none.
+pub struct Put {
+    pub at: usize,
+    pub place: usize,
+    pub entry: Entry,
+}
+
+fn nothing_put(at: usize) -> Put
+    ensures { λ r. ⌜ r ≡ record { at = at; place = places; entry = freeEntry } ⌝ }
 {
-    if !s.ready {
-        let next = printing::stream_row(out, at, b"offer", q.stream, 51);
-        return Answered { state: s, at: next };
+    let entry = model::free_entry();
+    Put {
+        at,
+        place: 32,
+        entry,
     }
-    let o = planner::offer(s.table, q.stream, q.kind, q.period, q.min, q.max, q.life);
-    let answer = o.answer;
+}
+
+pub fn answer_offer(ready: bool, t: Table, q: Request, out: &mut [u8], at: usize) -> Put
+    requires { ⌜ Ready (stateOf ready t) ⌝ }
+    requires { ⌜ at + answerMost ≤ length (now out) ⌝ }
+    ensures { λ r. let s = stateOf ready t in let bs = rowsFor s (Offer q) in
+        ⌜ (stateOf ready (putIn t (r .place) (r .entry)) ≡ stateAfter s (Offer q))
+        × ((r .at ≡ at + length bs) × (now (out .exit) ≡ written (now (out .entry)) at bs)) ⌝ }
+{
+    if !ready {
+        let next = printing::stream_row(out, at, b"offer", q.stream, 51);
+        return nothing_put(next);
+    }
+    let d = planner::decide(t, q);
+    let answer = d.answer;
+    let entry = d.entry;
     let number = refusals::offer_number(answer);
     let next = printing::stream_row(out, at, b"offer", q.stream, number);
-    let table = o.table;
-    let state = State { ready: true, table };
-    Answered { state, at: next }
+    Put {
+        at: next,
+        place: d.place,
+        entry,
+    }
 }
 
-fn answer_withdraw(s: State, stream: u32, out: &mut [u8], at: usize) -> Answered
-    requires { ⌜ Ready s ⌝ }
+pub fn answer_withdraw(ready: bool, t: Table, stream: u32, out: &mut [u8], at: usize) -> Put
+    requires { ⌜ Ready (stateOf ready t) ⌝ }
     requires { ⌜ at + answerMost ≤ length (now out) ⌝ }
-    ensures { λ r. let c = Withdraw stream in let bs = rowsFor s c in
-        ⌜ (r .state ≡ stateAfter s c) × ((r .at ≡ at + length bs) × (now (out .exit) ≡ written (now (out .entry)) at bs)) ⌝ }
+    ensures { λ r. let s = stateOf ready t in let bs = rowsFor s (Withdraw stream) in
+        ⌜ (stateOf ready (putIn t (r .place) (r .entry)) ≡ stateAfter s (Withdraw stream))
+        × ((r .at ≡ at + length bs) × (now (out .exit) ≡ written (now (out .entry)) at bs)) ⌝ }
 {
-    if !s.ready {
+    if !ready {
         let next = printing::stream_row(out, at, b"withdraw", stream, 51);
-        return Answered { state: s, at: next };
+        return nothing_put(next);
     }
-    let w = planner::withdraw(s.table, stream);
-    let answer = w.answer;
+    let r = planner::release(t, stream);
+    let answer = r.answer;
     let number = refusals::held_number(answer);
-    if number != 0 {
-        let next = printing::stream_row(out, at, b"withdraw", stream, number);
-        return Answered { state: s, at: next };
-    }
     let next = printing::stream_row(out, at, b"withdraw", stream, number);
-    let table = w.table;
-    let state = State { ready: true, table };
-    Answered { state, at: next }
+    let entry = model::free_entry();
+    Put {
+        at: next,
+        place: r.place,
+        entry,
+    }
+}
+
+// ---- a beacon
+// The place after its rows, and what moves the table on: the shares of the places in use. Where none is in use the table stays.
+pub struct Beaconing {
+    pub at: usize,
+    pub used: usize,
+    pub shares: Shares,
+}
+
+fn no_table(out: &mut [u8], at: usize) -> Beaconing
+    requires { ⌜ at + answerMost ≤ length (now out) ⌝ }
+    ensures { λ r. let bs = plainRow beaconVerb 51 in
+        ⌜ (r .used ≡ 0) × ((r .at ≡ at + length bs) × (now (out .exit) ≡ written (now (out .entry)) at bs)) ⌝ }
+{
+    let next = printing::plain_row(out, at, b"beacon", 51);
+    let shares = Shares {
+        pieces: [0; 32],
+        extras: [0; 32],
+    };
+    Beaconing {
+        at: next,
+        used: 0,
+        shares,
+    }
 }
 
 // The plan is in lent memory, and each of its records has a row.
-fn answer_beacon(s: State, plan: &mut [u32], out: &mut [u8], at: usize) -> Answered
-    requires { ⌜ Ready s ⌝ }
+pub fn answer_beacon(
+    ready: bool,
+    t: Table,
+    plan: &mut [u32],
+    out: &mut [u8],
+    at: usize,
+) -> Beaconing
+    requires { ⌜ Ready (stateOf ready t) ⌝ }
     requires { ⌜ planWords ≤ length (now plan) ⌝ }
     requires { ⌜ at + answerMost ≤ length (now out) ⌝ }
-    ensures { λ r. let bs = rowsFor s Beacon in
-        ⌜ (r .state ≡ stateAfter s Beacon) × ((r .at ≡ at + length bs)
+    ensures { λ r. let s = stateOf ready t in let bs = rowsFor s Beacon in
+        ⌜ Moves t (r .used) (r .shares) (stateAfter s Beacon .table) × ((r .at ≡ at + length bs)
         × ((now (out .exit) ≡ written (now (out .entry)) at bs) × (now (plan .exit) ≡ planAfter s Beacon (now (plan .entry))))) ⌝ }
 {
-    if !s.ready {
-        let next = printing::plain_row(out, at, b"beacon", 51);
-        return Answered { state: s, at: next };
+    if !ready {
+        return no_table(out, at);
     }
-    let b = planner::beacon(s.table, plan);
-    let answer = b.answer;
+    let p = planner::plan_interval(t, plan);
+    let answer = p.answer;
     let number = refusals::beacon_number(answer);
     let after_call = printing::plain_row(out, at, b"beacon", number);
-    let next = records::slot_rows(out, after_call, plan, b.count);
-    let table = b.table;
-    let state = State { ready: true, table };
-    Answered { state, at: next }
-}
-
-// A row's call, and the rows of its answer from `at` on; every other byte stays as it was.
-pub fn answer(s: State, c: Command, plan: &mut [u32], out: &mut [u8], at: usize) -> Answered
-    requires { ⌜ Ready s ⌝ }
-    requires { ⌜ planWords ≤ length (now plan) ⌝ }
-    requires { ⌜ at + answerMost ≤ length (now out) ⌝ }
-    ensures { λ r. let bs = rowsFor s c in
-        ⌜ (r .state ≡ stateAfter s c) × ((r .at ≡ at + length bs)
-        × ((now (out .exit) ≡ written (now (out .entry)) at bs) × (now (plan .exit) ≡ planAfter s c (now (plan .entry))))) ⌝ }
-{
-    match c {
-        Command::Open(units) => answer_open(s, units, out, at),
-        Command::Offer(q) => answer_offer(s, q, out, at),
-        Command::Withdraw(stream) => answer_withdraw(s, stream, out, at),
-        Command::Beacon => answer_beacon(s, plan, out, at),
-        Command::OtherForm => Answered {
-            state: s,
-            at: printing::plain_row(out, at, b"row", 50),
-        },
-    }
-}
-
-// The same where no row follows, so that no state is given back. A second caller of each of the four keeps the compiler from joining
-// them in one function that copies the state piece by piece.
-pub fn last_answer(s: State, c: Command, plan: &mut [u32], out: &mut [u8], at: usize) -> usize
-    requires { ⌜ Ready s ⌝ }
-    requires { ⌜ planWords ≤ length (now plan) ⌝ }
-    requires { ⌜ at + answerMost ≤ length (now out) ⌝ }
-    ensures { λ r. let bs = rowsFor s c in
-        ⌜ (r ≡ at + length bs)
-        × ((now (out .exit) ≡ written (now (out .entry)) at bs) × (now (plan .exit) ≡ planAfter s c (now (plan .entry)))) ⌝ }
-{
-    match c {
-        Command::Open(units) => answer_open(s, units, out, at).at,
-        Command::Offer(q) => answer_offer(s, q, out, at).at,
-        Command::Withdraw(stream) => answer_withdraw(s, stream, out, at).at,
-        Command::Beacon => answer_beacon(s, plan, out, at).at,
-        Command::OtherForm => printing::plain_row(out, at, b"row", 50),
+    let next = records::slot_rows(out, after_call, plan, p.count);
+    let shares = p.shares;
+    Beaconing {
+        at: next,
+        used: p.used,
+        shares,
     }
 }

@@ -2,3 +2,5 @@ pub mod Cutting
 pub mod Sizes
 pub mod Whole
 pub mod Parts
+pub mod Turns
+pub mod Last

@@ -4,12 +4,13 @@ ghost use mathlib.Core.Path.{_≡_};
 ghost use Prim.Native.Nat.{_+_, _≤_};
 ghost use lib.ListN.{length, take};
 ghost use Rattle.printing.specs.Printed.{written};
-ghost use Rattle.answers.specs.Room.{planWords, answerMost, Ready};
+ghost use Rattle.answers.specs.Room.{planWords, answerMost, stateOf, Ready};
 ghost use Rattle.interpreter.specs.Cutting.{firstShelf, commandIn, lastRows, lastPlan};
 ghost use Rattle.interpreter.specs.Whole.{chunkRows, chunkPlan, shelfAfter};
 ghost use Rattle.interpreter.specs.Parts.{servedTo};
 use answers::State;
 use commands::Command;
+use model::Table;
 use rows::Line;
 use rows::Reader;
 
@@ -55,14 +56,16 @@ fn command_in(line: Line) -> Command
     Command::OtherForm
 }
 
-fn served_to(reader: Reader, state: State, taken: usize, at: usize) -> Served
-    ensures { λ r. ⌜ r ≡ servedTo reader state taken at ⌝ }
+fn served_to(reader: Reader, ready: bool, table: Table, taken: usize, at: usize) -> Served
+    ensures { λ r. ⌜ r ≡ servedTo reader (stateOf ready table) taken at ⌝ }
 {
+    let state = State { ready, table };
     let shelf = Shelf { reader, state };
     Served { shelf, taken, at }
 }
 
-// Row after row, until the chunk is used up or another answer might not fit. The state stays in its place: only a call takes it.
+// Row after row, until the chunk is used up or another answer might not fit. The table stays in its place: a call reads it, and what it
+// says is put there.
 pub fn serve_rows(s: Shelf, chunk: &[u8], plan: &mut [u32], out: &mut [u8], at: usize) -> Served
     requires { ⌜ Ready (s .state) ⌝ }
     requires { ⌜ planWords ≤ length (now plan) ⌝ }
@@ -75,32 +78,62 @@ pub fn serve_rows(s: Shelf, chunk: &[u8], plan: &mut [u32], out: &mut [u8], at: 
         ⌜ (r .taken ≤ n) × ((r .at ≤ room) × (r .at + answerMost ≤ room → r .taken ≡ n)) ⌝ }
 {
     let mut reader = s.reader;
-    let mut state = s.state;
+    let state = s.state;
+    let mut ready = state.ready;
+    let mut table = state.table;
     let mut taken: usize = 0;
     let mut next = at;
     let last = out.len() - ANSWER_MOST;
     while taken < chunk.len() {
         if last < next {
-            return served_to(reader, state, taken, next);
+            return served_to(reader, ready, table, taken, next);
         }
         let c = rows::cut_row(reader, &chunk[taken..]);
         let r = c.reader;
         taken += c.taken;
         if !c.ended {
-            return served_to(r, state, taken, next);
+            return served_to(r, ready, table, taken, next);
         }
         reader = rows::at_start();
-        let command = command_in(r.line);
-        if let Command::OtherForm = command {
-            next = printing::plain_row(out, next, b"row", 50);
-            continue;
+        match command_in(r.line) {
+            Command::Open(units) => {
+                let o = answers::answer_open(units, out, next);
+                next = o.at;
+                if o.succeeded {
+                    ready = true;
+                    table = planner::opened_table(units);
+                }
+            }
+            Command::Offer(q) => {
+                let p = answers::answer_offer(ready, table, q, out, next);
+                next = p.at;
+                let place = p.place;
+                if place < 32 {
+                    let e = p.entry;
+                    table.entries[place] = e;
+                }
+            }
+            Command::Withdraw(stream) => {
+                let p = answers::answer_withdraw(ready, table, stream, out, next);
+                next = p.at;
+                let place = p.place;
+                if place < 32 {
+                    let e = p.entry;
+                    table.entries[place] = e;
+                }
+            }
+            Command::Beacon => {
+                let b = answers::answer_beacon(ready, table, plan, out, next);
+                next = b.at;
+                if 0 < b.used {
+                    let shares = b.shares;
+                    table = advance::advance(table, b.used, shares);
+                }
+            }
+            Command::OtherForm => next = printing::plain_row(out, next, b"row", 50),
         }
-        let a = answers::answer(state, command, plan, out, next);
-        let after = a.state;
-        state = after;
-        next = a.at;
     }
-    served_to(reader, state, taken, next)
+    served_to(reader, ready, table, taken, next)
 }
 
 // At the end of the input: the answer to the last row, where that has a byte and no CR LF.
@@ -116,5 +149,5 @@ pub fn finish(s: Shelf, plan: &mut [u32], out: &mut [u8], at: usize) -> usize
     if line.len == 0 {
         return at;
     }
-    answers::last_answer(s.state, command_in(line), plan, out, at)
+    serve_rows(s, b"\r\n", plan, out, at).at
 }
