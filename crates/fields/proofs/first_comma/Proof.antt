@@ -1,4 +1,4 @@
--- `commands::first_comma` meets its contract. The invariant: no comma stands before place i. The measure is what is left of the text.
+-- `fields::first_comma` meets its contract. The invariant: no comma stands before place i. The measure is what is left of the text.
 -- Assumes nothing.
 use mathlib.Core.Path.{_≡_}
 use Prim.Native.Nat.{_+_, _-_, _≤_}
@@ -6,8 +6,8 @@ use native.Mathlib.Omega.{arith}
 use lib.ListN.{length, drop}
 use borrow.Author.Needs.{needs}
 use Rattle.text.specs.FieldLaws.{toComma, comma-here, comma-later, comma-nowhere}
-use Rattle.commands.proofs.first_comma.Statement.{statement}
-use Rattle.commands.proofs.first_comma.Tie as tie
+use Rattle.fields.proofs.first_comma.Statement.{statement}
+use Rattle.fields.proofs.first_comma.Tie as tie
 
 abbrev Inv-loop : tie.InvT-loop
 Inv-loop text i₀ i = (i ≤ length text) × (i + toComma (drop i text) ≡ toComma text)

@@ -1,4 +1,4 @@
--- `commands::read_fields` meets its contract. The invariant: what is left of the text fits the turns left exactly where the whole fits, and
+-- `fields::read_fields` meets its contract. The invariant: what is left of the text fits the turns left exactly where the whole fits, and
 -- the values kept and those of what is left are the values of the whole. The measure is the number of turns left. Assumes nothing.
 use mathlib.Core.Path.{_≡_, refl, sym, ap, _∙_}
 use mathlib.Core.List.{List, _∷_, _++_, map}
@@ -10,9 +10,9 @@ use borrow.Author.Tests.{not-true, not-false}
 use Rattle.text.specs.Fields.{valueOf}
 use Rattle.text.specs.FieldLaws.{fieldsAfter, after-end, part, part-most, part-next}
 use Rattle.text.specs.FieldLaws.{fitFrom, fit-none, fit-refused, fit-passed, fit-over, fit-done}
-use Rattle.commands.specs.ReadLaws.{good-fits, good-value, fields-bad, fields-good, value-kept, values-kept}
-use Rattle.commands.proofs.read_fields.Statement.{statement}
-use Rattle.commands.proofs.read_fields.Tie as tie
+use Rattle.fields.specs.ReadLaws.{good-fits, good-value, fields-bad, fields-good, value-kept, values-kept}
+use Rattle.fields.proofs.read_fields.Statement.{statement}
+use Rattle.fields.proofs.read_fields.Tie as tie
 
 abbrev Inv-loop : tie.InvT-loop
 Inv-loop text count none values₀ at₀ i₀ values at i =

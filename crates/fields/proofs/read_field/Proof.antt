@@ -1,8 +1,8 @@
--- `commands::read_field` meets its contract. Assumes nothing.
-use Rattle.commands.specs.ReadLaws.{empty-read}
+-- `fields::read_field` meets its contract. Assumes nothing.
+use Rattle.fields.specs.ReadLaws.{empty-read}
 use borrow.Author.Needs.{needs}
-use Rattle.commands.proofs.read_field.Statement.{statement}
-use Rattle.commands.proofs.read_field.Tie as tie
+use Rattle.fields.proofs.read_field.Statement.{statement}
+use Rattle.fields.proofs.read_field.Tie as tie
 
 read-number-requires : tie.Need-read-number-requires
 read-number-requires c κs = search needs

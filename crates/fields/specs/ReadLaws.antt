@@ -12,8 +12,8 @@ use borrow.Author.Tests.{ne-eqb, lt-leb}
 use Rattle.lists.specs.Tests.{and-false, both-within}
 use Rattle.text.specs.Fields.{spelt, valueOf, isEmpty}
 use Rattle.text.specs.FieldLaws.{spells, is-number, fits, fitFrom, fit-all}
-use Rattle.commands.specs.Reads.{noNumber, noNumbers, fieldRead, fieldsRead}
-use Rattle.commands.specs.declared.Number.{Number}
+use Rattle.fields.specs.FieldReads.{noNumber, noNumbers, fieldRead, fieldsRead}
+use Rattle.fields.specs.declared.Number.{Number}
 
 abbrev pub numbered : ℕ → Number
 numbered v = record { good = true; value = v }

@@ -1,4 +1,4 @@
--- `commands::read_number` meets its contract. The invariant: the digits from place i on, after the value so far, spell what the whole
+-- `fields::read_number` meets its contract. The invariant: the digits from place i on, after the value so far, spell what the whole
 -- spells. The measure is the number of bytes left. Assumes nothing.
 use mathlib.Core.Path.{_≡_, refl, sym, _∙_}
 use mathlib.Core.Bool.{true}
@@ -11,9 +11,9 @@ use Rattle.lists.specs.Lists.{within}
 use Rattle.lists.specs.Tests.{within-both}
 use Rattle.text.specs.Fields.{spelt, valueOf}
 use Rattle.text.specs.FieldLaws.{spells, too-large, no-digit, digit-next, spelt-next, digits-end, spelt-end}
-use Rattle.commands.specs.ReadLaws.{too-short, too-long, not-spelt, well-spelt}
-use Rattle.commands.proofs.read_number.Statement.{statement}
-use Rattle.commands.proofs.read_number.Tie as tie
+use Rattle.fields.specs.ReadLaws.{too-short, too-long, not-spelt, well-spelt}
+use Rattle.fields.proofs.read_number.Statement.{statement}
+use Rattle.fields.proofs.read_number.Tie as tie
 
 abbrev Inv-loop : tie.InvT-loop
 Inv-loop field none value₀ i₀ i-end value i =
