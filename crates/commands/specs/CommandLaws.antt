@@ -12,9 +12,10 @@ use Rattle.lists.specs.Tests.{and-both, both-and, eqb-refl, same-test, either, 
 use Rattle.text.specs.Fields.{spelt, valueOf, filled, numberAt}
 use Rattle.text.specs.Rows.{rowMost}
 use Rattle.text.specs.FieldLaws.{toComma, fieldsAfter, fields-first, part, part-rest}
-use Rattle.commands.specs.declared.Numbers.{Numbers}
+use Rattle.fields.specs.declared.Numbers.{Numbers}
+use Rattle.fields.specs.FieldReads.{fieldsRead, noNumbers}
 use Rattle.commands.specs.Commands.{commandOf, fromFields, called, requestFrom, openVerb, offerVerb, withdrawVerb, beaconVerb}
-use Rattle.commands.specs.Reads.{verbOf, countOf, asked, fieldsRead, noNumbers}
+use Rattle.commands.specs.Reads.{verbOf, countOf, asked}
 use Rattle.commands.specs.declared.Command.{Command}
 use Rattle.commands.specs.declared.Command.the-variants.{OtherForm}
 use Rattle.commands.specs.declared.Verb.{Verb}

@@ -1,4 +1,3 @@
 pub mod Commands
 pub mod Reads
 pub mod CommandLaws
-pub mod ReadLaws

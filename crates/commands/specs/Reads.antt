@@ -1,33 +1,14 @@
--- What the code of this crate reads on the way to a command. Document 01, "Reading, lending, printing". Assumes nothing.
+-- The verb of a row, and what it asks for with its numbers. Document 01, "Reading, lending, printing". Assumes nothing.
 use Prim.Native.Nat.{ℕ}
-use mathlib.Core.Bool.{Bool, true, false, cond, _&&_}
-use mathlib.Core.List.{List, map}
-use lib.Dec.{eqb}
-use lib.ListN.{length, getD, replicate}
+use mathlib.Core.Bool.{cond}
+use mathlib.Core.List.{List}
+use lib.ListN.{getD}
 use Rattle.lists.specs.Lists.{sameList}
-use Rattle.text.specs.Fields.{valueOf, filled}
-use Rattle.text.specs.FieldLaws.{fits}
 use Rattle.commands.specs.Commands.{openVerb, offerVerb, withdrawVerb, beaconVerb}
 use Rattle.commands.specs.declared.Command.{Command}
 use Rattle.commands.specs.declared.Command.the-variants.{Open, Offer, Withdraw, Beacon, OtherForm}
 use Rattle.commands.specs.declared.Verb.{Verb}
 use Rattle.commands.specs.declared.Verb.the-variants as verb
-use Rattle.commands.specs.declared.Number.{Number}
-use Rattle.commands.specs.declared.Numbers.{Numbers}
-
-abbrev pub noNumber : Number
-noNumber = record { good = false; value = 0 }
-
-abbrev pub noNumbers : Numbers
-noNumbers = record { good = false; values = replicate 6 0 }
-
--- a field that is needed is a number, another is empty
-unfoldable pub fieldRead : Bool → List ℕ → Number
-fieldRead needed f = cond (fits needed f) (record { good = true; value = valueOf f }) noNumber
-
--- six fields, the first n of them numbers
-unfoldable pub fieldsRead : ℕ → List (List ℕ) → Numbers
-fieldsRead n fs = cond (eqb (length fs) 6 && filled n fs) (record { good = true; values = map valueOf fs }) noNumbers
 
 unfoldable pub verbOf : List ℕ → Verb
 verbOf v =

@@ -1,2 +1,1 @@
-pub mod Leaps
 pub mod Turn

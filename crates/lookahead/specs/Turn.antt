@@ -24,7 +24,7 @@ use Rattle.laws.specs.Places.{Tidy, held-sum}
 use Rattle.ahead.specs.Moved.{lifeOf}
 use Rattle.ahead.specs.Loop.{lookedPast, past-tidy, ahead-misses, ahead-turn, ahead-less}
 use Rattle.ahead.specs.Leap.{Quiet, skipped-length, skipped-load, skipped-capacity, skipped-most, leap-tidy, leap-ahead}
-use Rattle.lookahead.specs.Leaps.{quietFor, leapt, leap-quiet}
+use Rattle.leap.specs.Leaps.{quietFor, leapt, leap-quiet}
 
 -- ---- the tests of a turn
 abbrev pub ahead : Table → Bool

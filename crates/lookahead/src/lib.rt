@@ -3,9 +3,6 @@ ghost use mathlib.Core.Path.{_≡_};
 ghost use Rattle.rules.specs.Ahead.{fitsAhead};
 ghost use Rattle.rules.specs.Calls.{heldOf};
 ghost use Rattle.laws.specs.Places.{Tidy};
-
-pub mod leap; // leap.rt: the intervals in which nothing ends, served as one
-
 use model::Table;
 
 // Where an even share is enough for what is left, no more intervals are looked at: so too where nothing is left. A leap leaves the load

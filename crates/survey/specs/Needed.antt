@@ -1,12 +1,11 @@
--- What an even share of every interval takes of one interval, entry by entry, and of a table's places together. Assumes nothing.
+-- What an even share of every interval takes of one interval, of a table's places together. Assumes nothing.
 use mathlib.Core.Path.{_≡_, refl, sym, ap, _∙_}
-use mathlib.Core.Logic.{_≢_}
-use mathlib.Core.Bool.{false, cond}
+use mathlib.Core.Bool.{false}
 use mathlib.Core.List.{List, [], _∷_}
-use Prim.Native.Nat.{ℕ, _+_, _*_, _-_, _≤_, _<_, max}
+use Prim.Native.Nat.{ℕ, _+_, _-_, _≤_, _<_}
 use native.Mathlib.Omega.{arith}
 use lib.Dec.{leb}
-use borrow.Author.Tests.{ne-eqb, leb-true, le-leb, lt-leb}
+use borrow.Author.Tests.{leb-true, le-leb, lt-leb}
 use Rattle.lists.specs.Lists.{sumOf}
 use Rattle.lists.specs.Tests.{same-test}
 use Rattle.model.specs.declared.Entry.{Entry}
@@ -15,20 +14,7 @@ use Rattle.rules.specs.Share.{load}
 use Rattle.rules.specs.Calls.{heldOf}
 use Rattle.laws.specs.Places.{Tidy, load-places}
 use Rattle.ahead.specs.Even.{evenly}
-use Rattle.share.specs.Queues.{loadOf}
-
--- kind 1: m times its minimum; a piece: evenly up to its deadline
-unfoldable pub evenNeed : Entry → ℕ
-evenNeed e = loadOf e + evenly e
-
--- by kind
-pub need-fraction : (e : Entry) → e .kind ≡ 1 → loadOf e ≡ evenNeed e
-unfolding evenNeed evenly
-need-fraction e k = (let none : evenly e ≡ 0 = rw k refl in omega arith)
-
-pub need-piece : (e : Entry) → e .kind ≢ 1 → evenly e ≡ evenNeed e
-unfolding evenNeed
-need-piece e k = (let none : loadOf e ≡ 0 = rw (ne-eqb (e .kind) 1 k) refl in omega arith)
+unfoldable pub use Rattle.even.specs.Need.{evenNeed}
 
 -- what kind 1 takes, and what the pieces do
 needs-apart : (es : List Entry) → sumOf evenNeed es ≡ load es + sumOf evenly es
@@ -40,12 +26,6 @@ pub needs-places : (t : Table) → Tidy t → sumOf evenNeed (t .entries) ≡ lo
 needs-places t w = needs-apart (t .entries) ∙ ap (λ n. n + sumOf evenly (t .entries)) (load-places t w)
 
 -- ---- tests
-pub larger-right : (a b : ℕ) → a ≤ b → b ≡ max a b
-larger-right a b h = omega arith
-
-pub larger-left : (a b : ℕ) → b ≤ a → a ≡ max a b
-larger-left a b h = omega arith
-
 -- what is left of b slots beside n is enough for s more
 pub over-test : (n s b : ℕ) → b < n → false ≡ leb (n + s) b
 over-test n s b h = sym (lt-leb (n + s) b (omega arith))

@@ -15,9 +15,6 @@ ghost use Rattle.share.specs.Queues.{loadOf};
 ghost use Rattle.survey.specs.Needed.{evenNeed};
 ghost use Rattle.survey.specs.Search.{isHeldAs, isFree};
 ghost use Rattle.survey.specs.Passes.{withEntry, mostNeed};
-
-pub mod even; // even.rt: what an even share takes of an interval
-
 use model::Entry;
 use model::Slots;
 use model::Table;

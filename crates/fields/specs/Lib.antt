@@ -1,0 +1,2 @@
+pub mod FieldReads
+pub mod ReadLaws
