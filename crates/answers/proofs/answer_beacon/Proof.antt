@@ -4,7 +4,7 @@ use native.Mathlib.Omega.{arith}
 use denote.Ref.{now}
 use borrow.Author.Tests.{not-true, not-false}
 use Rattle.commands.specs.Commands.{beaconVerb}
-use Rattle.planner.specs.Numbers.{beaconNumber}
+use Rattle.refusals.specs.Numbers.{beaconNumber}
 use Rattle.planner.specs.Changes.{stays-put}
 use Rattle.printing.specs.PrintedLaws.{wrote, wrote-then, contract, plain-row-most}
 use Rattle.answers.specs.Meaning.{stateAfter, planAfter, rowsFor}
