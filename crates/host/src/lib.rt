@@ -25,30 +25,10 @@ pub struct Sent {
     pub count: usize,
 }
 
-pub struct Sending {
-    pub sent: Sent,
-    pub table: Table,
-}
-
 #[repr(C)]
 pub struct Found {
     pub answer: u32,
     pub entry: Entry,
-}
-
-fn beacon_step(t: Table, plan: &mut [u32]) -> Sending
-    requires { ⌜ WellFormed t ⌝ }
-    ensures { λ r. let b = beacon t (now (plan .entry)) in
-        ⌜ (r .sent .answer ≡ b .answer) × (r .sent .count ≡ b .count) × (r .table ≡ b .table) × (now (plan .exit) ≡ b .words) ⌝ }
-{
-    let b = planner::beacon(t, plan);
-    let answer = b.answer;
-    let sent = Sent {
-        answer: planner::beacon_number(answer),
-        count: b.count,
-    };
-    let table = b.table;
-    Sending { sent, table }
 }
 
 // ---- an offer by value
@@ -112,9 +92,13 @@ pub extern "C" fn gelmush_beacon(table: &mut Table, plan: &mut [u32]) -> Sent
     ensures { λ r. let b = beacon (now (table .entry)) (now (plan .entry)) in
         ⌜ (r .answer ≡ b .answer) × (r .count ≡ b .count) × (now (table .exit) ≡ b .table) × (now (plan .exit) ≡ b .words) ⌝ }
 {
-    let b = beacon_step(*table, plan);
+    let b = planner::beacon(*table, plan);
     *table = b.table;
-    b.sent
+    let answer = b.answer;
+    Sent {
+        answer: planner::beacon_number(answer),
+        count: b.count,
+    }
 }
 
 #[no_mangle]

@@ -138,7 +138,8 @@ module _ {M : Type 1} (𝓤 : URA M) (H : Heap 𝓤) (A : Atoms 𝓤) (at-mem : 
     asked : IsTable h → WellFormed h → ent 𝓤 (emp 𝓤) (Decide .pre to-decide)
     asked was formed =
         qed W [] ∵ says ! formed $ use0 W (‵ (owns numbers (fields n) (spelled n))) had $
-        owned ! T.the-row (Is T.the-row) ((LL.makes T.the-type T′.the-plain) 𝓤 H A) h (machine h ∷ []) was $ fjoin ! $ nothing ! $ join ! $ done !
+        owned ! T.the-row (Is T.the-row) ((LL.makes T.the-type T′.the-plain) 𝓤 H A) h (machine h ∷ []) was $ fjoin ! $
+        nothing ! $ join ! $ done !
 
     given : (w : Val) → ent 𝓤 (Decide .post to-decide w) (mean 𝓤 H A (Gives 𝓤 D.the-row Done w))
     given w =
