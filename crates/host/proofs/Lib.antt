@@ -3,5 +3,4 @@ pub mod Lent
 pub mod Looked
 pub mod Number
 pub mod Search
-pub mod Stepped
 pub mod Walk

@@ -1,7 +1,7 @@
 // The calls for a host that lends its table, and for C. Document 01, "Reading, lending, printing": the host lends its table and finds
-// it there as the call leaves it. An offer and a beacon copy the table, make the call by value, and store the table after it; the other
-// calls read and write the table where it lies. An answer is the document's number. Each contract is an equation over what the host had
-// at entry and has at exit.
+// it there as the call leaves it. A beacon copies the table, makes the call by value, and stores the table after it. An offer copies it
+// for the decision by value, and stores one entry. The other calls read and write the table where it lies. An answer is the document's
+// number. Each contract is an equation over what the host had at entry and has at exit.
 ghost use mathlib.Core.Bool.{cond};
 ghost use mathlib.Core.Path.{_≡_};
 ghost use lib.Dec.{eqb};
@@ -10,27 +10,19 @@ ghost use Rattle.lists.specs.First.{firstOf};
 ghost use Rattle.rules.specs.Calls.{openAnswer, opened, offerAnswer, offered, heldAnswer, withdrawn, beacon};
 ghost use Rattle.rules.specs.Reading.{enquired, windowAnswer, windowPart};
 ghost use Rattle.rules.specs.WellFormed.{WellFormed};
+ghost use Rattle.planner.specs.Changes.{putIn};
 ghost use Rattle.planner.specs.Numbers.{request};
 ghost use Rattle.survey.specs.Search.{isHeldAs};
 use model::Entry;
+use model::Request;
 use model::Table;
 
-// ---- the calls by value, with the answer's number
-pub struct Answered {
-    pub answer: u32,
-    pub table: Table,
-}
-
+// ---- what the calls give back
 // What a beacon sends besides the plan: its answer and its record count.
 #[repr(C)]
 pub struct Sent {
     pub answer: u32,
     pub count: usize,
-}
-
-pub struct Sending {
-    pub sent: Sent,
-    pub table: Table,
 }
 
 #[repr(C)]
@@ -39,22 +31,15 @@ pub struct Found {
     pub entry: Entry,
 }
 
-fn beacon_step(t: Table, plan: &mut [u32]) -> Sending
-    requires { ⌜ WellFormed t ⌝ }
-    ensures { λ r. let b = beacon t (now (plan .entry)) in
-        ⌜ (r .sent .answer ≡ b .answer) × (r .sent .count ≡ b .count) × (r .table ≡ b .table) × (now (plan .exit) ≡ b .words) ⌝ }
-{
-    let b = planner::beacon(t, plan);
-    let answer = b.answer;
-    let sent = Sent {
-        answer: refusals::beacon_number(answer),
-        count: b.count,
-    };
-    let table = b.table;
-    Sending { sent, table }
+// ---- an offer by value
+// An offer's answer, and what it puts in the table: its entry, at a place. Place 32 stands for none.
+pub struct Decided {
+    pub answer: u32,
+    pub place: usize,
+    pub entry: Entry,
 }
 
-fn offer_step(
+fn decide_step(
     t: Table,
     stream: u32,
     kind: u32,
@@ -62,16 +47,27 @@ fn offer_step(
     min: u32,
     max: u32,
     life: u32,
-) -> Answered
+) -> Decided
     requires { ⌜ WellFormed t ⌝ }
-    ensures { λ r. let q = request stream kind period min max life in ⌜ (r .answer ≡ offerAnswer t q) × (r .table ≡ offered t q) ⌝ }
+    ensures { λ r. let q = request stream kind period min max life in
+        ⌜ (r .answer ≡ offerAnswer t q) × (putIn t (r .place) (r .entry) ≡ offered t q) ⌝ }
 {
-    let o = planner::offer(t, stream, kind, period, min, max, life);
-    let answer = o.answer;
-    let table = o.table;
-    Answered {
+    let q = Request {
+        stream,
+        kind,
+        period,
+        min,
+        max,
+        life,
+    };
+    let d = planner::decide(t, q);
+    let answer = d.answer;
+    let place = d.place;
+    let entry = d.entry;
+    Decided {
         answer: refusals::offer_number(answer),
-        table,
+        place,
+        entry,
     }
 }
 
@@ -100,9 +96,13 @@ pub extern "C" fn gelmush_beacon(table: &mut Table, plan: &mut [u32]) -> Sent
     ensures { λ r. let b = beacon (now (table .entry)) (now (plan .entry)) in
         ⌜ (r .answer ≡ b .answer) × (r .count ≡ b .count) × (now (table .exit) ≡ b .table) × (now (plan .exit) ≡ b .words) ⌝ }
 {
-    let b = beacon_step(*table, plan);
+    let b = planner::beacon(*table, plan);
     *table = b.table;
-    b.sent
+    let answer = b.answer;
+    Sent {
+        answer: refusals::beacon_number(answer),
+        count: b.count,
+    }
 }
 
 #[no_mangle]
@@ -119,9 +119,13 @@ pub extern "C" fn gelmush_offer(
     ensures { λ r. let t = now (table .entry) in let q = request stream kind period min max life in
         ⌜ (r ≡ offerAnswer t q) × (now (table .exit) ≡ offered t q) ⌝ }
 {
-    let step = offer_step(*table, stream, kind, period, min, max, life);
-    *table = step.table;
-    step.answer
+    let d = decide_step(*table, stream, kind, period, min, max, life);
+    let place = d.place;
+    let entry = d.entry;
+    if place < 32 {
+        table.entries[place] = entry;
+    }
+    d.answer
 }
 
 #[no_mangle]
