@@ -18,8 +18,9 @@ use Rattle.rules.specs.Share.{load}
 use Rattle.laws.specs.Places.{Tidy, load-places}
 use Rattle.laws.specs.Closed.{mostSlots, load-most}
 use Rattle.laws.specs.Ranks.{rank}
-use Rattle.share.specs.Queues.{Queued, loadOf, owedTo, free-place}
-use Rattle.share.proofs.Known.{inside, past, size}
+use Rattle.share.specs.Queues.{Queued, free-place}
+use Rattle.amounts.specs.Amounts.{loadOf, owedTo}
+use Rattle.amounts.proofs.Known.{inside, past, size}
 
 pub record Making (t : Table) (i n all : ℕ) (ks os : List ℕ) : Type 0 where
   pub within : i ≤ 32

@@ -16,7 +16,7 @@ use Rattle.lists.specs.Tests.{cond-zero}
 use Rattle.lists.specs.All.{All, stop, and, all-at, all-map, map-ext}
 use Rattle.lists.specs.Sums.{sum-ext}
 use Rattle.lists.specs.Spare.{Spare, spare-map}
-use Rattle.model.specs.Entries.{freeEntry, isKind, isPiece}
+use Rattle.model.specs.Entries.{freeEntry, isPiece}
 use Rattle.model.specs.declared.Entry.{Entry}
 use Rattle.model.specs.declared.Table.{Table}
 use Rattle.rules.specs.Share.{load, sooner}
@@ -27,6 +27,7 @@ use Rattle.laws.specs.Turns.{owedBefore}
 use Rattle.laws.specs.Places.{Tidy}
 use Rattle.laws.specs.Closed.{takes, takes-owed}
 use Rattle.laws.specs.Ranks.{rank, rank-sooner, held-ranked, held-rank}
+use Rattle.amounts.specs.Amounts.{owedTo}
 use Rattle.share.specs.declared.Queue.{Queue}
 
 -- from place n on all are free
@@ -40,14 +41,6 @@ free-place t w i d h z = elim (all-at _ (t .entries) d (w .entries) i h) [ inl q
   where
     held-least : {B : ℕ} {e : Entry} → Held B e → 1 ≤ e .stream
     held-least k = elim (held-kinds k) [ inl f ↦ f .stream-least | inr p ↦ p .stream-least ]
-
--- what a kind 1 stream takes of an interval; a piece has no load
-abbrev pub loadOf : Entry → ℕ
-loadOf e = cond (isKind 1 e) (e .parts * e .min .0) 0
-
--- what is owed to a piece; a kind 1 stream is owed nothing
-abbrev pub owedTo : Entry → ℕ
-owedTo e = cond (isPiece e) (e .owed .0) 0
 
 -- what is owed at lower ranks than r
 unfoldable pub owedBelow : (r : ℕ) (ranks owed : List ℕ) → ℕ

@@ -15,7 +15,7 @@ use Rattle.rules.specs.Share.{load}
 use Rattle.rules.specs.Calls.{heldOf}
 use Rattle.laws.specs.Places.{Tidy, load-places}
 use Rattle.ahead.specs.Even.{evenly}
-use Rattle.share.specs.Queues.{loadOf}
+use Rattle.amounts.specs.Amounts.{loadOf}
 
 -- kind 1: m times its minimum; a piece: evenly up to its deadline
 unfoldable pub evenNeed : Entry → ℕ

@@ -1,8 +1,8 @@
 use native.Mathlib.Omega.{arith}
 use borrow.Author.Tests.{eq-eqb, ne-eqb}
 use borrow.Author.Needs.{needs}
-use Rattle.share.proofs.headroom.Statement.{statement}
-use Rattle.share.proofs.headroom.Tie as tie
+use Rattle.amounts.proofs.headroom.Statement.{statement}
+use Rattle.amounts.proofs.headroom.Tie as tie
 
 less-requires : tie.Need-less-requires
 less-requires c κs = search needs

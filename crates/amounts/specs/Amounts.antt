@@ -1,0 +1,13 @@
+-- What an entry takes of an interval, and what it is owed, as numbers that are 0 where an entry has none. Assumes nothing.
+use mathlib.Core.Bool.{cond}
+use Prim.Native.Nat.{ℕ, _*_}
+use Rattle.model.specs.Entries.{isKind, isPiece}
+use Rattle.model.specs.declared.Entry.{Entry}
+
+-- what a kind 1 stream takes of an interval; a piece has no load
+abbrev pub loadOf : Entry → ℕ
+loadOf e = cond (isKind 1 e) (e .parts * e .min .0) 0
+
+-- what is owed to a piece; a kind 1 stream is owed nothing
+abbrev pub owedTo : Entry → ℕ
+owedTo e = cond (isPiece e) (e .owed .0) 0
