@@ -3,9 +3,9 @@
 ghost use mathlib.Core.Path.{_≡_};
 ghost use Prim.Native.Nat.{_+_, _*_, _-_, min};
 ghost use Rattle.model.specs.Entries.{isPiece};
-ghost use Rattle.rules.specs.Share.{headroom, jobCount, extra};
+ghost use Rattle.rules.specs.Share.{jobCount, extra};
 ghost use Rattle.rules.specs.Slots.{jobLength};
-ghost use Rattle.amounts.specs.Amounts.{loadOf, owedTo};
+ghost use Rattle.amounts.specs.Amounts.{loadOf, owedTo, limitOf};
 use model::Entry;
 use model::Slots;
 
@@ -99,20 +99,19 @@ pub fn owed_of(e: Entry) -> u32
 }
 
 // ---- C. what remains is shared in proportion
-// What an entry with so many slots of step B may still get; a transfer has no part in step C.
-pub fn headroom(e: Entry, piece: Slots) -> Slots
-    ensures { λ r. ⌜ r .0 ≡ headroom e (piece .0) ⌝ }
+// What an entry may still get before its slots of step B; a transfer has no part in step C.
+pub fn limit_of(e: Entry) -> u32
+    ensures { λ r. ⌜ r ≡ limitOf e ⌝ }
 {
     let kind = e.kind;
     let most = e.max.0;
     if kind == 1 {
-        return Slots(less(most, e.min.0));
+        return less(most, e.min.0);
     }
     if kind == 2 {
-        let open = less(most, e.given.0);
-        return Slots(less(open, piece.0));
+        return less(most, e.given.0);
     }
-    Slots(0)
+    0
 }
 
 // The part of what remains is no more than the headroom, so it has 32 bits as well.

@@ -5,24 +5,26 @@ ghost use mathlib.Core.List.{map};
 ghost use mathlib.Core.Path.{_≡_};
 ghost use Prim.Native.Nat.{_+_, _*_, _≤_, _<_};
 ghost use lib.Dec.{ltb};
-ghost use lib.ListN.{getD};
+ghost use lib.ListN.{length, getD};
+ghost use Rattle.lists.specs.All.{All};
 ghost use Rattle.lists.specs.Spare.{Spare};
-ghost use Rattle.rules.specs.Share.{stepB, jobCount, weight, extra};
-ghost use Rattle.rules.specs.Calls.{heldOf};
+ghost use Rattle.rules.specs.Share.{extra};
 ghost use Rattle.laws.specs.Places.{Tidy};
-ghost use Rattle.share.specs.Queues.{Used, owedBelow, pieceOf, piecesOf, Queueing, Queued};
-ghost use Rattle.share.specs.Shares.{piecesIn, roomsIn, sharesOf};
+ghost use Rattle.share.specs.Queues.{owedBelow, pieceOf, piecesOf, Queueing, Queued, Bounded};
+ghost use Rattle.share.specs.Shares.{roomsBy, weightBy, sharesBy};
 use model::Entry;
 use model::Slots;
 use model::Table;
 
-// A table read once: the load of step A, and step B by numbers, place by place: a rank, and what is owed there. From place `used` on all
-// are free.
+// A table read once: the load of step A, and steps B and C by numbers, place by place: a rank, what is owed there, what it may still get
+// before that, and its jobs. From place `used` on all are free.
 pub struct Queue {
     pub used: usize,
     pub load: u64,
     pub ranks: [u64; 32],
     pub owed: [u32; 32],
+    pub limits: [u32; 32],
+    pub jobs: [u32; 32],
 }
 
 // One loop finds all figures: each function that takes a table copies it first.
@@ -34,6 +36,8 @@ pub fn queue_of(t: Table) -> Queue
     let mut load: u64 = 0;
     let mut ranks = [0u64; 32];
     let mut owed = [0u32; 32];
+    let mut limits = [0u32; 32];
+    let mut jobs = [0u32; 32];
     for i in 0..32 {
         let e = t.entries[i];
         let stream = e.stream;
@@ -42,6 +46,8 @@ pub fn queue_of(t: Table) -> Queue
             load = load + amounts::load_of(e);
             ranks[i] = amounts::rank(e.left.0, e.kind, stream);
             owed[i] = amounts::owed_of(e);
+            limits[i] = amounts::limit_of(e);
+            jobs[i] = amounts::job_count(e);
         }
     }
     Queue {
@@ -49,6 +55,8 @@ pub fn queue_of(t: Table) -> Queue
         load,
         ranks,
         owed,
+        limits,
+        jobs,
     }
 }
 
@@ -102,31 +110,32 @@ pub fn pieces(q: Queue, capacity: Slots) -> [u32; 32]
     pieces
 }
 
-fn weight_of(e: Entry, room: Slots) -> u64
-    ensures { λ r. ⌜ r ≡ jobCount e * room .0 ⌝ }
+// ---- C. what remains is shared in proportion
+fn weight_of(jobs: u32, room: u32) -> u64
+    ensures { λ r. ⌜ r ≡ jobs * room ⌝ }
 {
-    let jobs = amounts::job_count(e) as u64;
-    jobs * (room.0 as u64)
+    let count = jobs as u64;
+    count * (room as u64)
 }
 
-// What each place may still get, and W.
+// What each place may still get after its piece, and W.
 struct Rooms {
     rooms: [u32; 32],
     weight: u64,
 }
 
-fn rooms_of(t: Table, used: usize, pieces: [u32; 32]) -> Rooms
-    requires { ⌜ Tidy t × Used used t ⌝ }
-    requires { ⌜ pieces ≡ piecesIn t ⌝ }
-    ensures { λ r. ⌜ (r .rooms ≡ roomsIn t) × (r .weight ≡ weight (stepB (t .interval .0) (heldOf t)) (heldOf t)) ⌝ }
+fn rooms_of(used: usize, limits: &[u32; 32], jobs: &[u32; 32], pieces: &[u32; 32]) -> Rooms
+    requires { ⌜ (used ≤ 32) × (Spare 0 used (now limits) × All (λ m. m ≤ 16) (now jobs)) ⌝ }
+    requires { ⌜ (length (now limits) ≡ 32) × ((length (now jobs) ≡ 32) × (length (now pieces) ≡ 32)) ⌝ }
+    ensures { λ r. let ds = roomsBy (now (limits .entry)) (now (pieces .entry)) in
+        ⌜ (r .rooms ≡ ds) × (r .weight ≡ weightBy (now (jobs .entry)) ds) ⌝ }
 {
     let mut rooms = [0u32; 32];
     let mut weight: u64 = 0;
     for i in 0..used {
-        let e = t.entries[i];
-        let room = amounts::headroom(e, Slots(pieces[i]));
-        rooms[i] = room.0;
-        weight = weight + weight_of(e, room);
+        let room = amounts::less(limits[i], pieces[i]);
+        rooms[i] = room;
+        weight = weight + weight_of(jobs[i], room);
     }
     Rooms { rooms, weight }
 }
@@ -157,20 +166,21 @@ pub struct Shares {
     pub extras: [u32; 32],
 }
 
-// Step B gives all that is owed, or the whole capacity: what remains is the capacity less all that is owed.
-pub fn shares_of(t: Table, q: Queue) -> Shares
-    requires { ⌜ Tidy t ⌝ }
-    requires { ⌜ Queued t q ⌝ }
-    ensures { λ r. ⌜ r ≡ sharesOf t ⌝ }
+// For a tidy table's queue these are its slots of steps B and C: Shares.shares-right. Step B gives all that is owed, or the whole
+// capacity: what remains is the capacity less all that is owed.
+pub fn shares_of(interval: Slots, q: Queue) -> Shares
+    requires { ⌜ Bounded q ⌝ }
+    ensures { λ r. ⌜ r ≡ sharesBy (interval .0) q ⌝ }
 {
     let used = q.used;
     let ranks = q.ranks;
     let owed = q.owed;
-    let interval = t.interval;
+    let limits = q.limits;
+    let jobs = q.jobs;
     let capacity = amounts::left_of(interval, q.load);
     let pieces = pieces(q, capacity);
     let remains = amounts::left_of(capacity, owed_below(&ranks, &owed, used, u64::MAX));
-    let r = rooms_of(t, used, pieces);
+    let r = rooms_of(used, &limits, &jobs, &pieces);
     let rooms = r.rooms;
     let s = Sharing {
         capacity,
