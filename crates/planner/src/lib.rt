@@ -288,7 +288,7 @@ pub fn beacon(t: Table, plan: &mut [u32]) -> Beaconing
         };
     }
     let q = share::queue_of(t);
-    let s = share::shares_of(t, q);
+    let s = share::shares_of(t.interval, q);
     let count = jobs::write_jobs(t, q, s, plan);
     let table = advance::advance(t, q.used, s);
     Beaconing {

@@ -8,6 +8,8 @@ use denote.Ref.{now}
 use borrow.Author.Tests.{lt-ltb, le-ltb}
 use Rattle.rules.specs.Calls.{recordWords, mostRecords, wordsOf, planOf, beacon}
 use Rattle.laws.specs.Places.{formed-tidy}
+use Rattle.share.specs.Queues.{queued-bounded}
+use Rattle.share.specs.Shares.{sharesOf, shares-right}
 use borrow.Author.Needs.{needs}
 use Rattle.planner.proofs.beacon.Statement.{statement}
 use Rattle.planner.proofs.beacon.Tie as tie
@@ -22,19 +24,26 @@ queue-of-requires : tie.Need-queue-of-requires
 queue-of-requires c κs = formed-tidy (c .before .before .pre)
 
 shares-of-requires : tie.Need-shares-of-requires
-shares-of-requires c κs = (formed-tidy (c .before .before .before .pre), c .queue-of .ensures)
+shares-of-requires c κs = queued-bounded (formed-tidy (c .before .before .before .pre)) (c .queue-of .ensures)
+
+-- the shares by the queue are the table's
+shared : (s : tie.After-shares-of) → s .shares-of .result ≡ sharesOf (s .before .before .before .before .args .t)
+shared s =
+    let q = s .before in
+    let z = q .before .before .before in
+    s .shares-of .ensures ∙ shares-right (z .args .t) (formed-tidy (z .pre)) (q .queue-of .ensures)
 
 write-jobs-requires : tie.Need-write-jobs-requires
 write-jobs-requires c κs =
     let s = c .before in
     let q = s .before in
-    ((formed-tidy (q .before .before .before .pre), q .queue-of .ensures), (s .shares-of .ensures, search needs))
+    ((formed-tidy (q .before .before .before .pre), q .queue-of .ensures), (shared s, search needs))
 
 advance-requires : tie.Need-advance-requires
 advance-requires c κs =
     let s = c .before .before .before .before in
     let q = s .before in
-    ((formed-tidy (q .before .before .before .pre), q .queue-of .ensures .used), s .shares-of .ensures)
+    ((formed-tidy (q .before .before .before .pre), q .queue-of .ensures .used), shared s)
 
 same-length : tie.Need-same-length
 same-length c = search needs
