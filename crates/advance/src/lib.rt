@@ -24,7 +24,7 @@ fn passed(e: Entry, g: Granted) -> Entry
     ensures { λ r. ⌜ r ≡ passed (g .piece .0) (g .extra .0) e ⌝ }
 {
     let kind = e.kind;
-    let life_left = share::less(e.life_left.0, 1);
+    let life_left = amounts::less(e.life_left.0, 1);
     let mut next = e;
     next.life_left.0 = life_left;
     if kind == 1 {
@@ -33,9 +33,9 @@ fn passed(e: Entry, g: Granted) -> Entry
         next.left.0 = 0;
         return next;
     }
-    let owed = share::less(e.owed.0, g.piece.0);
+    let owed = amounts::less(e.owed.0, g.piece.0);
     let given = e.given.0 + g.piece.0 + g.extra.0;
-    let left = share::less(e.left.0, 1);
+    let left = amounts::less(e.left.0, 1);
     next.owed.0 = owed;
     next.given.0 = given;
     next.left.0 = left;
@@ -88,7 +88,7 @@ fn misses_deadline(e: Entry, piece: u32) -> bool
     if left != 1 {
         return false;
     }
-    if share::is_piece(e) {
+    if amounts::is_piece(e) {
         return piece < e.owed.0;
     }
     false

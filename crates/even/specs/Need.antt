@@ -6,7 +6,7 @@ use native.Mathlib.Omega.{arith}
 use borrow.Author.Tests.{ne-eqb}
 use Rattle.model.specs.declared.Entry.{Entry}
 use Rattle.ahead.specs.Even.{evenly}
-use Rattle.share.specs.Queues.{loadOf}
+use Rattle.amounts.specs.Amounts.{loadOf}
 
 -- kind 1: m times its minimum; a piece: evenly up to its deadline
 unfoldable pub evenNeed : Entry → ℕ

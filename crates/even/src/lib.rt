@@ -3,7 +3,7 @@
 ghost use mathlib.Core.Path.{_≡_};
 ghost use Prim.Native.Nat.{_+_, _≤_};
 ghost use Rattle.ahead.specs.Even.{upward, evenly};
-ghost use Rattle.share.specs.Queues.{loadOf};
+ghost use Rattle.amounts.specs.Amounts.{loadOf};
 ghost use Rattle.even.specs.Need.{evenNeed};
 use model::Entry;
 
@@ -21,7 +21,7 @@ fn upward(a: u32, b: u32) -> u64
 fn even_slots(e: Entry) -> u64
     ensures { λ r. ⌜ (r ≡ evenly e) × (r ≤ 8589934590) ⌝ }
 {
-    if !share::is_piece(e) {
+    if !amounts::is_piece(e) {
         return 0;
     }
     let now = upward(e.owed.0, e.left.0);
@@ -42,7 +42,7 @@ pub fn need_of(e: Entry) -> u64
 {
     let kind = e.kind;
     if kind == 1 {
-        return share::load_of(e);
+        return amounts::load_of(e);
     }
     even_slots(e)
 }

@@ -62,16 +62,16 @@ pub fn write_jobs(t: Table, q: Queue, s: Shares, plan: &mut [u32]) -> usize
     for k in 0..count {
         let i = o.places[k];
         let e = t.entries[i];
-        let length = share::job_length(interval, e);
+        let length = amounts::job_length(interval, e);
         let g = Granted {
             piece: Slots(s.pieces[i]),
             extra: Slots(s.extras[i]),
         };
         let need = need_of(e, g);
-        let row = row_of(share::job_count(e), need);
+        let row = row_of(amounts::job_count(e), need);
         streams[k] = e.stream;
         lengths[k] = length.0;
         needs[k] = row;
     }
-    plan::write_plan(interval.0, count, streams, lengths, needs, plan)
+    plan::write_plan(interval.0, count, streams, lengths, &mut needs, plan)
 }

@@ -27,7 +27,7 @@ fn event_in(e: Entry) -> u32
     if stream == 0 {
         return LONGEST;
     }
-    if share::is_piece(e) {
+    if amounts::is_piece(e) {
         return e.left.0;
     }
     e.life_left.0
@@ -39,7 +39,7 @@ fn nearest_event(t: Table) -> u32
     let mut least = LONGEST;
     for i in 0..32 {
         let e = t.entries[i];
-        least = share::smaller(event_in(e), least);
+        least = amounts::smaller(event_in(e), least);
     }
     least
 }
@@ -48,12 +48,12 @@ fn nearest_event(t: Table) -> u32
 fn quiet(t: Table, capacity: Slots) -> u32
     ensures { λ r. ⌜ r ≡ quietFor (capacity .0) (t .entries) ⌝ }
 {
-    let n = share::less(nearest_event(t), 1);
+    let n = amounts::less(nearest_event(t), 1);
     let slots = capacity.0;
     if slots == 0 {
         return n;
     }
-    share::smaller(n, SLOTS_LARGEST / slots)
+    amounts::smaller(n, SLOTS_LARGEST / slots)
 }
 
 // An entry n intervals on, with its piece of them all.
@@ -61,10 +61,10 @@ fn later(e: Entry, n: u32, piece: Slots) -> Entry
     requires { ⌜ WithinAmounts (granted (piece .0) 0) e ⌝ }
     ensures { λ r. ⌜ r ≡ later n (piece .0) e ⌝ }
 {
-    let life_left = share::less(e.life_left.0, n);
-    let owed = share::less(e.owed.0, piece.0);
+    let life_left = amounts::less(e.life_left.0, n);
+    let owed = amounts::less(e.owed.0, piece.0);
     let given = e.given.0 + piece.0;
-    let left = share::less(e.left.0, n);
+    let left = amounts::less(e.left.0, n);
     let mut next = e;
     next.life_left.0 = life_left;
     next.owed.0 = owed;

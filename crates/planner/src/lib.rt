@@ -280,7 +280,7 @@ pub fn plan_interval(t: Table, plan: &mut [u32]) -> Planned
     if q.used == 0 {
         return unplanned(BeaconAnswer::Planned);
     }
-    let shares = share::shares_of(t, q);
+    let shares = share::shares_of(t.interval, q);
     let count = jobs::write_jobs(t, q, shares, plan);
     Planned {
         answer: BeaconAnswer::Planned,

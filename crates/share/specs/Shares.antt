@@ -1,26 +1,35 @@
 -- The figures by which an interval is shared, and what an entry gets by them. For each entry that a table holds, these are its slots of
 -- steps B and C of document 01, "One beacon". Assumes nothing.
-use mathlib.Core.Path.{_≡_, sym, ap, ap₂, _∙_}
-use mathlib.Core.List.{List, map}
-use Prim.Native.Nat.{ℕ, _-_, _<_}
+use mathlib.Core.Path.{_≡_, refl, sym, ap, ap₂, _∙_}
+use mathlib.Core.Logic.{_⊎_, inl, inr}
+use mathlib.Core.Bool.{cond}
+use mathlib.Core.List.{List, map, map-map}
+use Prim.Native.Nat.{ℕ, _*_, _-_, _<_}
 use native.Mathlib.Omega.{arith}
 use lib.Dec.{ltb}
 use lib.ListN.{length, getD}
-use Rattle.lists.specs.All.{All, all-zip}
+use Rattle.lists.specs.All.{All, all-map, all-zip, map-ext}
+use Rattle.lists.specs.Lists.{sumOf}
+use Rattle.lists.specs.Sums.{sum-ext, sum-map}
 use Rattle.lists.specs.Loops.{map-at}
 use Rattle.model.specs.Entries.{freeEntry}
 use Rattle.model.specs.declared.Entry.{Entry}
 use Rattle.model.specs.declared.Table.{Table}
-use Rattle.rules.specs.Share.{overfull, capacity, stepB, remains, headroom, weight, extra}
+use Rattle.rules.specs.Share.{overfull, capacity, stepB, remains, headroom, jobCount, weight, extra}
 use Rattle.rules.specs.Calls.{heldOf}
+use Rattle.rules.specs.WellFormed.{Held}
+use Rattle.laws.specs.Held.{held-is}
 use Rattle.laws.specs.Turns.{stepBOf}
 use Rattle.laws.specs.Extras.{stepCOf, extra-le}
 use Rattle.laws.specs.Places.{Tidy, remains-places}
-use Rattle.laws.specs.Closed.{takes, takes-held, extra-held}
+use Rattle.laws.specs.Settled.{headroom-fraction, headroom-whole, headroom-transfer}
+use Rattle.laws.specs.Closed.{takes, takes-owed, takes-held, by-kind, weight-places, extra-held}
+use Rattle.amounts.specs.Amounts.{limitOf, jobsIn}
 use Rattle.share.specs.declared.Granted.{Granted}
 use Rattle.share.specs.declared.Queue.{Queue}
 use Rattle.share.specs.declared.Sharing.{Sharing}
 use Rattle.share.specs.declared.Shares.{Shares}
+use Rattle.share.specs.Zips.{zip, zip-map}
 use Rattle.share.specs.Queues.{Queued, owedBelow, piecesOf, takes-found, below-all}
 
 abbrev pub granted : (piece extra : ℕ) → Granted
@@ -89,6 +98,64 @@ module _ (t : Table) (w : Tidy t) {q : Queue} (k : Queued t q) where
       → o ≡ owedBelow 18446744073709551615 (q .ranks) (q .owed) → L ≡ c - o → L ≡ remains (t .interval .0) (heldOf t)
   remains-found e p r =
       omega (arith, remains-places t w, p ∙ ap₂ (owedBelow 18446744073709551615) (k .ranks) (k .owed) ∙ below-all t w)
+
+-- ---- by the numbers of a queue
+abbrev pub roomsBy : (limits pieces : List ℕ) → List ℕ
+roomsBy limits pieces = zip (λ p d. d - p) pieces limits
+
+abbrev pub weightBy : (jobs rooms : List ℕ) → ℕ
+weightBy jobs rooms = sumOf (λ v. v) (zip (λ m d. m * d) jobs rooms)
+
+abbrev pub sharesBy : ℕ → Queue → Shares
+sharesBy B q =
+    let E = B - q .load in
+    let L = E - owedBelow 18446744073709551615 (q .ranks) (q .owed) in
+    let ps = piecesOf E (q .ranks) (q .owed) in
+    let ds = roomsBy (q .limits) ps in
+    record { pieces = ps; extras = map (extra L (weightBy (q .jobs) ds)) ds }
+
+module _ (t : Table) (w : Tidy t) where
+  abbrev piece : Entry → ℕ
+  piece = takes (capacity (t .interval .0) (heldOf t)) (t .entries)
+
+  -- kind 1 has no slots of step B
+  room-right : All (λ e. limitOf e - piece e ≡ roomIn t e) (t .entries)
+  room-right =
+      by-kind t w (λ e. limitOf e - piece e ≡ roomIn t e) (omega arith)
+      (λ e f. omega (
+        arith,
+        headroom-fraction e 0 (f .kind),
+        headroom-fraction e (piece e) (f .kind),
+        f .owed,
+        takes-owed (capacity (t .interval .0) (heldOf t)) (t .entries) e,
+      ))
+      (λ e p k. omega (arith, headroom-whole e 0 k, headroom-whole e (piece e) k))
+      (λ e p k. omega (arith, headroom-transfer e 0 k, headroom-transfer e (piece e) k))
+
+  rooms-right : roomsBy (map limitOf (t .entries)) (piecesIn t) ≡ roomsIn t
+  rooms-right = zip-map (λ p d. d - p) piece limitOf (t .entries) ∙ map-ext _ _ room-right
+
+  weight-right : weightBy (map jobsIn (t .entries)) (roomsIn t) ≡ weight (stepB (t .interval .0) (heldOf t)) (heldOf t)
+  weight-right =
+      ap (sumOf (λ v. v)) (zip-map (λ m d. m * d) jobsIn (roomIn t) (t .entries))
+      ∙ sum-map (λ v. v) (λ e. jobsIn e * roomIn t e) (t .entries)
+      ∙ sum-ext _ (λ e. jobCount e * roomIn t e) (all-map one (w .entries)) ∙ sym (weight-places t w)
+    where
+      -- a free place gets nothing
+      one : (e : Entry) → (e ≡ freeEntry) ⊎ Held (t .interval .0) e → jobsIn e * roomIn t e ≡ jobCount e * roomIn t e
+      one e (inl z) = rw z
+      one e (inr h) = ap (λ b. cond b (jobCount e) 0 * roomIn t e) (held-is h)
+
+  -- for a table's queue they are the table's shares
+  pub shares-right : {q : Queue} → Queued t q → sharesBy (t .interval .0) q ≡ sharesOf t
+  shares-right {q} k =
+      let E : t .interval .0 - q .load ≡ capacity (t .interval .0) (heldOf t) = capacity-found t w k refl in
+      let ps : sharesBy (t .interval .0) q .pieces ≡ piecesIn t = pieces-found t w k E refl in
+      let ds : roomsBy (q .limits) (sharesBy (t .interval .0) q .pieces) ≡ roomsIn t = ap₂ roomsBy (k .limits) ps ∙ rooms-right in
+      let W : weightBy (q .jobs) (roomsBy (q .limits) (sharesBy (t .interval .0) q .pieces))
+      ≡ weight (stepB (t .interval .0) (heldOf t)) (heldOf t) = ap₂ weightBy (k .jobs) ds ∙ weight-right in
+      ap₂ (λ bs cs. record { pieces = bs; extras = cs }) ps
+      (ap₂ map (ap₂ extra (remains-found t w k E refl refl) W) ds ∙ map-map _ (roomIn t) (t .entries))
 
 pub grants-right : (t : Table) → Tidy t → (let B = t .interval .0 in let es = heldOf t in
     All (λ e. grantOf (sharingOf t) (t .entries) e ≡ granted (stepBOf B es e) (stepCOf B es e)) es)

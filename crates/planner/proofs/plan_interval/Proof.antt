@@ -8,7 +8,8 @@ use denote.Ref.{now}
 use borrow.Author.Tests.{lt-ltb, le-ltb}
 use Rattle.rules.specs.Calls.{recordWords, mostRecords, wordsOf, planOf, beacon}
 use Rattle.laws.specs.Places.{formed-tidy}
-use Rattle.share.specs.Queues.{Used}
+use Rattle.share.specs.Queues.{Used, queued-bounded}
+use Rattle.share.specs.Shares.{sharesOf, shares-right}
 use Rattle.refusals.specs.Numbers.{beaconNumber}
 use Rattle.planner.specs.Changes.{stays-put, moves-on, none-beacon}
 use borrow.Author.Needs.{needs}
@@ -41,10 +42,21 @@ returns-2 c =
     (ap beaconNumber (u .0), (u .1 .0, (refl, stays-put (u .1 .1) refl)))
 
 shares-of-requires : tie.Need-shares-of-requires
-shares-of-requires c κs = search needs
+shares-of-requires c κs =
+    let q = c .before .before in queued-bounded (formed-tidy (q .before .before .before .pre)) (q .queue-of .ensures)
+
+-- the shares by the queue are the table's
+shared : (s : tie.After-shares-of) → s .shares-of .result ≡ sharesOf (s .before .before .before .before .before .before .args .t)
+shared s =
+    let q = s .before .before .before in
+    let z = q .before .before .before in
+    s .shares-of .ensures ∙ shares-right (z .args .t) (formed-tidy (z .pre)) (q .queue-of .ensures)
 
 write-jobs-requires : tie.Need-write-jobs-requires
-write-jobs-requires c κs = search needs
+write-jobs-requires c κs =
+    let s = c .before in
+    let q = s .before .before .before in
+    ((formed-tidy (q .before .before .before .pre), q .queue-of .ensures), (shared s, search needs))
 
 same-length : tie.Need-same-length
 same-length c = search needs
@@ -62,7 +74,7 @@ returns-3 c =
       rw long,
       (
         rw long (e .0),
-        (rw long (e .1 ∙ ap (λ n. wordsOf (planOf (a .t)) ++ drop (4 * n) (now (a .plan))) (e .0)), rw long (held (s .shares-of .ensures, refl))),
+        (rw long (e .1 ∙ ap (λ n. wordsOf (planOf (a .t)) ++ drop (4 * n) (now (a .plan))) (e .0)), rw long (held (shared s, refl))),
       ),
     )
 

@@ -1,4 +1,4 @@
-use Rattle.share.proofs.Known.{past}
+use Rattle.amounts.proofs.Known.{past}
 use mathlib.Core.Path.{sym}
 use Rattle.planner.specs.Changes.{put-past}
 use borrow.Author.Needs.{needs}

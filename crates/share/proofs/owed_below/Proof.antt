@@ -1,21 +1,31 @@
-use mathlib.Core.Path.{_≡_, refl, ap, _∙_}
-use Prim.Native.Nat.{_*_, _-_, _≤_}
+-- `share::owed_below` meets its contract. The invariant: what is owed at lower ranks among the first i places. The measure is the number of
+-- places left. Assumes nothing.
+use mathlib.Core.Path.{_≡_, refl, sym, ap, _∙_}
+use mathlib.Core.Bool.{cond}
+use Prim.Native.Nat.{ℕ, _*_, _-_, _≤_}
 use native.Mathlib.Omega.{arith}
-use lib.ListN.{take}
+use lib.Dec.{ltb}
 use denote.Ref.{now}
-use Rattle.share.specs.Queues.{owedBelow, below-more, below-spare}
+use Rattle.lists.specs.Tests.{cond-zero}
+use Rattle.lists.specs.Loops.{summed, summed-more}
+use Rattle.lists.specs.Spare.{spare-sum}
+use Rattle.share.specs.Zips.{zip, length-zip, zip-at, zip-spare}
 use borrow.Author.Needs.{needs}
 use Rattle.share.proofs.owed_below.Statement.{statement}
 use Rattle.share.proofs.owed_below.Tie as tie
 
+-- what is owed at a place, where its rank is lower
+abbrev lower : (own rank owed : ℕ) → ℕ
+lower own k o = cond (ltb k own) o 0
+
 abbrev Inv-loop : tie.InvT-loop
-Inv-loop ranks owed used own all₀ i₀ all i = (i ≤ used) × (all ≡ owedBelow own (take i ranks) (take i owed)) × (all ≤ 4294967295 * i)
+Inv-loop ranks owed used own all₀ i₀ all i =
+    (i ≤ used) × (all ≡ summed (λ v. v) i (zip (lower own) ranks owed)) × (all ≤ 4294967295 * i)
 
 abbrev μ-loop : tie.MeasureT-loop
 μ-loop ranks owed used own all₀ i₀ all i = used - i
 
 loop-holds : tie.Need-loop-holds Inv-loop μ-loop
-unfolding owedBelow
 loop-holds c = (omega arith, refl, omega arith)
 
 mul-owed-if-lower : tie.Need-mul-owed-if-lower Inv-loop μ-loop
@@ -52,10 +62,12 @@ loop-again c =
     let a = s .args in
     let h = s .pre .ranked in
     let k = s .pre .room in
-    let few = s .pre .short in (
+    let few = s .pre .short in
+    let f = lower (a .own) in (
       omega arith,
-      below-more (a .own) (now (a .ranks)) (now (a .owed)) (l .loop .i) (omega arith) (omega arith) (l .loop .inv .1)
-          (c .owed-if-lower .ensures),
+      summed-more (λ v. v) (zip f (now (a .ranks)) (now (a .owed))) (l .loop .i) 0
+          (omega (arith, length-zip f (now (a .ranks)) (now (a .owed)))) (l .loop .inv .1)
+          (c .owed-if-lower .ensures ∙ sym (zip-at f (now (a .ranks)) (now (a .owed)) (l .loop .i) 0 0 0 (omega arith) (omega arith))),
       omega arith,
     )
 
@@ -65,9 +77,11 @@ returns c =
     let s = l .before .before .before in
     let a = s .args in
     let e : l .loop .i ≡ a .used = omega arith in
+    let all = zip (lower (a .own)) (now (a .ranks)) (now (a .owed)) in
     l .loop .inv .1
-    ∙ ap (λ n. owedBelow (a .own) (take n (now (a .ranks))) (take n (now (a .owed)))) e
-    ∙ below-spare (a .own) (a .used) (now (a .ranks)) (now (a .owed)) (s .pre .spare)
+    ∙ ap (λ n. summed (λ v. v) n all) e
+    ∙ spare-sum 0 (λ v. v) refl (a .used) all
+    (zip-spare (lower (a .own)) (λ k. cond-zero (ltb k (a .own))) (a .used) (now (a .ranks)) (now (a .owed)) (s .pre .spare))
 
 pub owed-below-spec : {M : Type 1} → statement M
 owed-below-spec =

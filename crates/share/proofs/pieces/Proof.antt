@@ -1,21 +1,35 @@
-use mathlib.Core.Path.{_≡_, refl, sym, subst, _∙_}
-use Prim.Native.Nat.{_-_, _≤_}
+-- `share::pieces` meets its contract. The invariant: the first i places have their pieces, and the others 0. The measure is the number of
+-- places left. Assumes nothing.
+use mathlib.Core.Path.{_≡_, sym, _∙_}
+use Prim.Native.Nat.{ℕ, _-_}
 use native.Mathlib.Omega.{arith}
-use Rattle.lists.specs.Spare.{Spare, begun, begun-more, begun-all}
-use Rattle.share.specs.Queues.{piecesOf, pieces-at, pieces-length, pieces-spare}
+use lib.ListN.{length}
+use Rattle.lists.specs.Spare.{Filling, filling-none, filling-more, filling-all}
+use Rattle.share.specs.Zips.{length-zip, zip-at, zip-spare}
+use Rattle.share.specs.Queues.{pieceOf, piecesOf}
 use Rattle.share.proofs.Known.{queue-32}
 use borrow.Author.Needs.{needs}
 use Rattle.share.proofs.pieces.Statement.{statement}
 use Rattle.share.proofs.pieces.Tie as tie
 
 abbrev Inv-loop : tie.InvT-loop
-Inv-loop capacity used ranks owed pieces₀ i₀ pieces i = (i ≤ used) × (pieces ≡ begun 0 32 i (piecesOf (capacity .0) ranks owed))
+Inv-loop capacity used ranks owed pieces₀ i₀ pieces i = Filling 0 (piecesOf (capacity .0) ranks owed) used pieces i
 
 abbrev μ-loop : tie.MeasureT-loop
 μ-loop capacity used ranks owed pieces₀ i₀ pieces i = used - i
 
+-- a place's piece, and how many there are
+abbrev own : (z : tie.Start Inv-loop μ-loop) (rank owed : ℕ) → ℕ
+own z = pieceOf (z .args .capacity .0) (z .args .q .ranks) (z .args .q .owed)
+
+pieces-sized : (z : tie.Start Inv-loop μ-loop)
+    → length (piecesOf (z .args .capacity .0) (z .args .q .ranks) (z .args .q .owed)) ≡ 32
+pieces-sized z =
+    let q = z .args .q in
+    omega (arith, length-zip (own z) (q .ranks) (q .owed), queue-32 q (z .good .0))
+
 loop-holds : tie.Need-loop-holds Inv-loop μ-loop
-loop-holds c = (omega arith, refl)
+loop-holds c = filling-none (pieces-sized (c .before .before))
 
 slice-aggregate-piece-at : tie.Need-slice-aggregate-piece-at Inv-loop μ-loop
 slice-aggregate-piece-at c = search needs
@@ -49,25 +63,18 @@ loop-again c =
     let s = l .before .before .before in
     let q = s .args .q in
     let w = queue-32 q (s .good .0) in
-    let few = s .pre .0 in (
-      omega arith,
-      begun-more 0 32 (l .loop .i) _ 0 (pieces-length (s .args .capacity .0) (q .ranks) (q .owed) 32 (q .ranks) (q .owed) (w .0) (w .1))
-          (omega arith) (l .loop .inv .1)
-          (c .piece-at .ensures
-          ∙ sym (pieces-at (s .args .capacity .0) (q .ranks) (q .owed) (l .loop .i) (q .ranks) (q .owed) (omega arith) (omega arith))),
-    )
+    let few = s .pre .0 in
+    let t = c .before .before .before .loop-test .taken in
+    filling-more (l .loop .inv) 0 (omega (arith, pieces-sized s)) t
+    (c .piece-at .ensures ∙ sym (zip-at (own s) (q .ranks) (q .owed) (l .loop .i) 0 0 0 (omega arith) (omega arith)))
 
 returns : tie.Need-returns Inv-loop μ-loop
 returns c =
     let l = c .before in
     let s = l .before .before .before in
     let q = s .args .q in
-    let w = queue-32 q (s .good .0) in
-    let e : q .used ≡ l .loop .i = omega arith in
-    l .loop .inv .1
-    ∙ begun-all 0 32 (l .loop .i) _ (pieces-length (s .args .capacity .0) (q .ranks) (q .owed) 32 (q .ranks) (q .owed) (w .0) (w .1))
-    (pieces-spare (s .args .capacity .0) (q .ranks) (q .owed) (l .loop .i) (q .ranks) (q .owed)
-    (subst (λ n. Spare 0 n (q .owed)) e (s .pre .1)))
+    filling-all (l .loop .inv) (c .loop-test .left)
+    (zip-spare (own s) (λ k. omega arith) (q .used) (q .ranks) (q .owed) (s .pre .1))
 
 pub pieces-spec : {M : Type 1} → statement M
 pieces-spec =

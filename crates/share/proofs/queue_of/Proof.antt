@@ -2,15 +2,16 @@ use mathlib.Core.Logic.{inl, inr}
 use Prim.Native.Nat.{_-_}
 use native.Mathlib.Omega.{arith}
 use borrow.Author.Needs.{needs}
-use Rattle.share.proofs.Making.{Making, making-none, load-small, making-more, making-same, making-all}
+use Rattle.share.proofs.Making.{Making, queue, making-none, load-small, making-more, making-same, making-all}
 use Rattle.share.proofs.queue_of.Statement.{statement}
 use Rattle.share.proofs.queue_of.Tie as tie
 
 abbrev Inv-loop : tie.InvT-loop
-Inv-loop t used₀ load₀ ranks₀ owed₀ i₀ used load ranks owed i = Making t i used load ranks owed
+Inv-loop t used₀ load₀ ranks₀ owed₀ limits₀ jobs₀ i₀ used load ranks owed limits jobs i =
+    Making t i (queue used load ranks owed limits jobs)
 
 abbrev μ-loop : tie.MeasureT-loop
-μ-loop t used₀ load₀ ranks₀ owed₀ i₀ used load ranks owed i = 32 - i
+μ-loop t used₀ load₀ ranks₀ owed₀ limits₀ jobs₀ i₀ used load ranks owed limits jobs i = 32 - i
 
 loop-holds : tie.Need-loop-holds Inv-loop μ-loop
 loop-holds c = making-none (c .args .t1) (c .good .0) (c .pre)
@@ -58,6 +59,24 @@ mul-owed c = search needs
 array-write-owed : tie.Need-array-write-owed Inv-loop μ-loop
 array-write-owed c = search needs
 
+limit-of-requires : tie.Need-limit-of-requires Inv-loop μ-loop
+limit-of-requires c κs = search needs
+
+mul-limits : tie.Need-mul-limits Inv-loop μ-loop
+mul-limits c = search needs
+
+array-write-limits : tie.Need-array-write-limits Inv-loop μ-loop
+array-write-limits c = search needs
+
+job-count-requires : tie.Need-job-count-requires Inv-loop μ-loop
+job-count-requires c κs = search needs
+
+mul-jobs : tie.Need-mul-jobs Inv-loop μ-loop
+mul-jobs c = search needs
+
+array-write-jobs : tie.Need-array-write-jobs Inv-loop μ-loop
+array-write-jobs c = search needs
+
 add-i : tie.Need-add-i Inv-loop μ-loop
 add-i c = search needs
 
@@ -71,9 +90,10 @@ loop-again c =
     let t = s .args .t1 in
     let h = c .before .before .loop-test .taken in
     elim (c .if1 .came) [
-      | inl w ↦ rw (w .4, w .5, w .6, w .7)
-          (making-more t (s .good .0) (s .pre) (l .loop .inv) h (w .1 .ensures) (w .2 .ensures) (w .3 .ensures))
-      | inr w ↦ rw (w .1, w .2, w .3, w .4) (making-same t (s .good .0) (s .pre) (l .loop .inv) h (w .0 .left))
+      | inl w ↦ rw (w .6, w .7, w .8, w .9, w .10, w .11)
+          (making-more t (s .good .0) (s .pre) (l .loop .inv) h (w .0 .taken) (w .1 .ensures) (w .2 .ensures) (w .3 .ensures) (w .4 .ensures)
+          (w .5 .ensures))
+      | inr w ↦ rw (w .1, w .2, w .3, w .4, w .5, w .6) (making-same t (s .good .0) (s .pre) (l .loop .inv) h (w .0 .left))
     ]
 
 returns : tie.Need-returns Inv-loop μ-loop
@@ -99,6 +119,12 @@ queue-of-spec =
     owed-of-requires
     mul-owed
     array-write-owed
+    limit-of-requires
+    mul-limits
+    array-write-limits
+    job-count-requires
+    mul-jobs
+    array-write-jobs
     add-i
     loop-less
     loop-again

@@ -1,52 +1,69 @@
+-- `share::rooms_of` meets its contract. The invariant: the first i rooms and their weight. The measure is the number of places left.
+-- Assumes nothing.
 use mathlib.Core.Path.{_≡_, refl, sym, ap, _∙_}
+use mathlib.Core.List.{List}
 use Prim.Native.Nat.{ℕ, _*_, _-_, _≤_, _<_}
+use native.Mathlib.Nat.{mul-zero, mul-le-mul}
 use native.Mathlib.Omega.{arith}
 use lib.ListN.{length, getD}
 use Rattle.lists.specs.All.{all-at}
-use Rattle.lists.specs.Loops.{summed, summed-more, map-at}
-use Rattle.lists.specs.Spare.{begun}
-use Rattle.model.specs.Entries.{freeEntry}
-use Rattle.model.specs.declared.Entry.{Entry}
-use Rattle.model.specs.declared.Table.{Table}
-use Rattle.rules.specs.Share.{capacity, headroom, jobCount}
-use Rattle.rules.specs.Calls.{heldOf}
-use Rattle.laws.specs.Closed.{takes, mostWeight, weight-most, weight-places}
-use Rattle.share.specs.Shares.{roomIn, roomsIn}
-use Rattle.share.proofs.Known.{used-inside, used-sum, used-more, used-all}
+use Rattle.lists.specs.Loops.{summed, summed-more}
+use Rattle.lists.specs.Spare.{Spare, spare-sum, Filling, filling-none, filling-more, filling-all}
+use Rattle.share.specs.Zips.{zip, length-zip, zip-at, zip-spare}
+use Rattle.share.specs.Shares.{roomsBy}
 use borrow.Author.Needs.{needs}
 use Rattle.share.proofs.rooms_of.Statement.{statement}
 use Rattle.share.proofs.rooms_of.Tie as tie
 
-abbrev weightIn : Table → Entry → ℕ
-weightIn t e = jobCount e * roomIn t e
+-- sixteen times the largest room
+abbrev most : ℕ
+most = 68719476720
+
+abbrev room : (piece limit : ℕ) → ℕ
+room p d = d - p
+
+abbrev times : (jobs room : ℕ) → ℕ
+times m d = m * d
 
 abbrev Inv-loop : tie.InvT-loop
-Inv-loop used t pieces rooms₀ weight₀ i₀ rooms weight i =
-    (i ≤ used)
-    × (rooms ≡ begun 0 32 i (roomsIn t))
-    × (weight ≡ summed (weightIn t) i (t .entries))
-    × (weight ≤ mostWeight * i)
+Inv-loop used limits jobs pieces rooms₀ weight₀ i₀ rooms weight i =
+    Filling 0 (roomsBy limits pieces) used rooms i
+    × (weight ≡ summed (λ v. v) i (zip times jobs (roomsBy limits pieces)))
+    × (weight ≤ most * i)
 
 abbrev μ-loop : tie.MeasureT-loop
-μ-loop used t pieces rooms₀ weight₀ i₀ rooms weight i = used - i
+μ-loop used limits jobs pieces rooms₀ weight₀ i₀ rooms weight i = used - i
+
+-- the rooms of all places and their weights, and how many there are
+abbrev rooms : (z : tie.Start Inv-loop μ-loop) → List ℕ
+rooms z = roomsBy (z .args .limits .now) (z .args .pieces .now)
+
+abbrev weights : (z : tie.Start Inv-loop μ-loop) → List ℕ
+weights z = zip times (z .args .jobs .now) (rooms z)
+
+rooms-sized : (z : tie.Start Inv-loop μ-loop) → length (rooms z) ≡ 32
+rooms-sized z = omega (arith, length-zip room (z .args .pieces .now) (z .args .limits .now), z .pre .1)
+
+weights-sized : (z : tie.Start Inv-loop μ-loop) → length (weights z) ≡ 32
+weights-sized z = omega (arith, length-zip times (z .args .jobs .now) (rooms z), rooms-sized z, z .pre .1)
 
 loop-holds : tie.Need-loop-holds Inv-loop μ-loop
-loop-holds c = (omega arith, refl, refl, omega arith)
+loop-holds c = (filling-none (rooms-sized c), refl, omega arith)
 
-mul-e : tie.Need-mul-e Inv-loop μ-loop
-mul-e c = search needs
+mul-less : tie.Need-mul-less Inv-loop μ-loop
+mul-less c = search needs
 
-element-copy-out-e : tie.Need-element-copy-out-e Inv-loop μ-loop
-element-copy-out-e c = search needs
+element-copy-out-less : tie.Need-element-copy-out-less Inv-loop μ-loop
+element-copy-out-less c = search needs
 
-mul-t12 : tie.Need-mul-t12 Inv-loop μ-loop
-mul-t12 c = search needs
+mul-less-2 : tie.Need-mul-less-2 Inv-loop μ-loop
+mul-less-2 c = search needs
 
-array-read-t18 : tie.Need-array-read-t18 Inv-loop μ-loop
-array-read-t18 c = search needs
+element-copy-out-less-2 : tie.Need-element-copy-out-less-2 Inv-loop μ-loop
+element-copy-out-less-2 c = search needs
 
-headroom-requires : tie.Need-headroom-requires Inv-loop μ-loop
-headroom-requires c κs = search needs
+less-requires : tie.Need-less-requires Inv-loop μ-loop
+less-requires c κs = search needs
 
 mul-rooms : tie.Need-mul-rooms Inv-loop μ-loop
 mul-rooms c = search needs
@@ -54,43 +71,52 @@ mul-rooms c = search needs
 array-write-rooms : tie.Need-array-write-rooms Inv-loop μ-loop
 array-write-rooms c = search needs
 
+mul-weight-of : tie.Need-mul-weight-of Inv-loop μ-loop
+mul-weight-of c = search needs
+
+element-copy-out-weight-of : tie.Need-element-copy-out-weight-of Inv-loop μ-loop
+element-copy-out-weight-of c = search needs
+
 weight-of-requires : tie.Need-weight-of-requires Inv-loop μ-loop
 weight-of-requires c κs = search needs
 
--- the place of the turn, and what is added: the weight of its entry
-within : (c : tie.After-headroom Inv-loop μ-loop)
-    → c .before .before .before .loop .i < length (c .before .before .before .before .args .t1 .entries)
-within c =
-    let s = c .before .before .before .before in
-    used-inside (s .args .t1) (s .good .0) (s .pre .0 .1) (c .before .before .loop-test .taken)
+-- the room of the turn, and its weight
+abbrev turn : tie.After-less Inv-loop μ-loop → tie.At-loop Inv-loop μ-loop
+turn e = e .before .before .before .before
 
-room : (c : tie.After-headroom Inv-loop μ-loop) → (let l = c .before .before .before in let t = l .before .args .t1 in
-    c .headroom .result .0 ≡ roomIn t (getD (t .entries) (l .loop .i) freeEntry))
-room c =
-    let l = c .before .before .before in
-    let s = l .before in
-    let t = s .args .t1 in
-    c .headroom .ensures
-    ∙ ap (headroom (getD (t .entries) (l .loop .i) freeEntry))
-    (ap (λ ns. getD ns (l .loop .i) 0) (s .pre .1) ∙ map-at _ (t .entries) (l .loop .i) freeEntry 0 (within c))
+inside : (e : tie.After-less Inv-loop μ-loop) → turn e .loop .i < 32
+inside e = omega (arith, e .before .before .before .loop-test .taken, turn e .before .pre .0 .0)
 
-own : (c : tie.After-weight-of Inv-loop μ-loop) → (let l = c .before .before .before .before in let t = l .before .args .t1 in
-    c .weight-of .result ≡ weightIn t (getD (t .entries) (l .loop .i) freeEntry))
-own c =
-    let l = c .before .before .before .before in
-    c .weight-of .ensures ∙ ap (λ b. jobCount (getD (l .before .args .t1 .entries) (l .loop .i) freeEntry) * b) (room (c .before))
+roomed : (e : tie.After-less Inv-loop μ-loop) → e .less .result ≡ getD (rooms (turn e .before)) (turn e .loop .i) 0
+roomed e =
+    let z = turn e .before in
+    let h = inside e in
+    e .less .ensures
+    ∙ sym (zip-at room (z .args .pieces .now) (z .args .limits .now) (turn e .loop .i) 0 0 0 (omega (arith, z .pre .1))
+    (omega (arith, z .pre .1)))
 
-small : (c : tie.After-weight-of Inv-loop μ-loop) → c .weight-of .result ≤ mostWeight
+weighed : (c : tie.After-weight-of Inv-loop μ-loop) → let l = turn (c .before .before) in
+    c .weight-of .result ≡ getD (weights (l .before)) (l .loop .i) 0
+weighed c =
+    let e = c .before .before in
+    let l = turn e in
+    let z = l .before in
+    let h = inside e in
+    c .weight-of .ensures
+    ∙ ap (times (getD (z .args .jobs .now) (l .loop .i) 0)) (roomed e)
+    ∙ sym (zip-at times (z .args .jobs .now) (rooms z) (l .loop .i) 0 0 0 (omega (arith, z .pre .1)) (omega (arith, rooms-sized z)))
+
+small : (c : tie.After-weight-of Inv-loop μ-loop) → c .weight-of .result ≤ most
 small c =
-    let s = c .before .before .before .before .before in
-    let t = s .args .t1 in
-    let b = takes (capacity (t .interval .0) (heldOf t)) (t .entries) in
-    rw (own c)
-    (all-at (λ e. jobCount e * headroom e (b e) ≤ mostWeight) (t .entries) freeEntry (weight-most t (s .pre .0 .0) b) _
-    (within (c .before)))
+    let e = c .before .before in
+    let z = turn e .before in
+    let h : turn e .loop .i < length (z .args .jobs .now) = omega (arith, inside e, z .pre .1) in
+    let few = all-at (λ m. m ≤ 16) (z .args .jobs .now) 0 (z .pre .0 .1 .1) (turn e .loop .i) h in
+    let low : e .less .result ≤ 4294967295 = omega (arith, e .less .ok) in
+    rw (c .weight-of .ensures) (mul-le-mul few low)
 
 add-weight : tie.Need-add-weight Inv-loop μ-loop
-add-weight c = omega (arith, small c)
+add-weight c = omega (arith, small c, inside (c .before .before))
 
 add-i : tie.Need-add-i Inv-loop μ-loop
 add-i c = search needs
@@ -100,25 +126,28 @@ loop-less c = search needs
 
 loop-again : tie.Need-loop-again Inv-loop μ-loop
 loop-again c =
-    let l = c .before .before .before .before in
-    let s = l .before in
-    let t = s .args .t1 in
-    let v = l .loop .inv in (
-      omega arith,
-      used-more t (s .good .0) (s .pre .0 .1) (roomIn t) refl (v .1) (c .before .before .before .loop-test .taken) (room (c .before)),
-      summed-more (weightIn t) (t .entries) _ freeEntry (within (c .before)) (v .2) (own c),
-      omega (arith, small c),
+    let e = c .before .before in
+    let l = turn e in
+    let z = l .before in
+    let v = l .loop .inv in
+    let h = e .before .before .before .loop-test .taken in (
+      filling-more (v .0) 0 (omega (arith, rooms-sized z, z .pre .0 .0)) h (roomed e),
+      summed-more (λ w. w) (weights z) (l .loop .i) 0 (omega (arith, inside e, weights-sized z)) (v .1) (weighed c),
+      omega (arith, small c, v .2),
     )
 
 returns : tie.Need-returns Inv-loop μ-loop
 returns c =
     let l = c .before in
-    let s = l .before in
-    let t = s .args .t1 in
+    let z = l .before in
     let v = l .loop .inv in
-    let u = s .pre .0 .1 in (
-      used-all t (s .good .0) u (roomIn t) refl (v .1) (v .0) (c .loop-test .left),
-      v .2 ∙ used-sum t (s .good .0) u (weightIn t) refl (v .0) (c .loop-test .left) ∙ sym (weight-places t (s .pre .0 .0)),
+    let e : l .loop .i ≡ z .args .used = omega (arith, v .0 .inside, c .loop-test .left) in
+    let spare : Spare 0 (z .args .used) (rooms z) =
+    zip-spare room (λ p. omega arith) (z .args .used) (z .args .pieces .now) (z .args .limits .now) (z .pre .0 .1 .0) in (
+      filling-all (v .0) (c .loop-test .left) spare,
+      v .1 ∙ ap (λ n. summed (λ w. w) n (weights z)) e
+          ∙ spare-sum 0 (λ w. w) refl (z .args .used) (weights z)
+          (zip-spare times mul-zero (z .args .used) (z .args .jobs .now) (rooms z) spare),
     )
 
 pub rooms-of-spec : {M : Type 1} → statement M
@@ -128,13 +157,15 @@ rooms-of-spec =
     Inv-loop
     μ-loop
     loop-holds
-    mul-e
-    element-copy-out-e
-    mul-t12
-    array-read-t18
-    headroom-requires
+    mul-less
+    element-copy-out-less
+    mul-less-2
+    element-copy-out-less-2
+    less-requires
     mul-rooms
     array-write-rooms
+    mul-weight-of
+    element-copy-out-weight-of
     weight-of-requires
     add-weight
     add-i

@@ -5,8 +5,8 @@ use native.Mathlib.Omega.{arith}
 use borrow.Author.Needs.{needs}
 use Rattle.lists.specs.All.{all-at}
 use Rattle.laws.specs.Closed.{mostSlots, load-most}
-use Rattle.share.proofs.Known.{inside, past}
-use Rattle.share.specs.Queues.{loadOf}
+use Rattle.amounts.proofs.Known.{inside, past}
+use Rattle.amounts.specs.Amounts.{loadOf}
 use Rattle.survey.specs.Needed.{evenNeed}
 use Rattle.survey.specs.Search.{isFree}
 use Rattle.survey.specs.Passes.{Passed, passed-none, passed-more, passed-all, free-needs}

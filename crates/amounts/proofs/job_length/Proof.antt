@@ -1,7 +1,7 @@
 use borrow.Author.Tests.{eq-eqb, ne-eqb}
 use borrow.Author.Needs.{needs}
-use Rattle.share.proofs.job_length.Statement.{statement}
-use Rattle.share.proofs.job_length.Tie as tie
+use Rattle.amounts.proofs.job_length.Statement.{statement}
+use Rattle.amounts.proofs.job_length.Tie as tie
 
 part-of-requires : tie.Need-part-of-requires
 part-of-requires c κs = search needs

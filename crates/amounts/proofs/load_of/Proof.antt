@@ -1,8 +1,8 @@
 use borrow.Author.Tests.{eq-eqb, ne-eqb}
 use borrow.Author.Needs.{needs}
 use Rattle.model.proofs.Products.{product-fits}
-use Rattle.share.proofs.load_of.Statement.{statement}
-use Rattle.share.proofs.load_of.Tie as tie
+use Rattle.amounts.proofs.load_of.Statement.{statement}
+use Rattle.amounts.proofs.load_of.Tie as tie
 
 returns : tie.Need-returns
 returns c = rw (ne-eqb _ _ (c .if1 .taken))

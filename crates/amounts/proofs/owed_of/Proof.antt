@@ -1,6 +1,6 @@
 use borrow.Author.Needs.{needs}
-use Rattle.share.proofs.owed_of.Statement.{statement}
-use Rattle.share.proofs.owed_of.Tie as tie
+use Rattle.amounts.proofs.owed_of.Statement.{statement}
+use Rattle.amounts.proofs.owed_of.Tie as tie
 
 is-piece-requires : tie.Need-is-piece-requires
 is-piece-requires c κs = search needs

@@ -1,6 +1,6 @@
 use borrow.Author.Tests.{ne-eqb}
-use Rattle.share.proofs.is_piece.Statement.{statement}
-use Rattle.share.proofs.is_piece.Tie as tie
+use Rattle.amounts.proofs.is_piece.Statement.{statement}
+use Rattle.amounts.proofs.is_piece.Tie as tie
 
 returns : tie.Need-returns
 returns c = rw (c .if1 .taken)

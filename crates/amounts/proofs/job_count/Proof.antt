@@ -1,6 +1,6 @@
 use borrow.Author.Tests.{eq-eqb, ne-eqb}
-use Rattle.share.proofs.job_count.Statement.{statement}
-use Rattle.share.proofs.job_count.Tie as tie
+use Rattle.amounts.proofs.job_count.Statement.{statement}
+use Rattle.amounts.proofs.job_count.Tie as tie
 
 returns : tie.Need-returns
 returns c = rw (eq-eqb _ _ (c .if1 .taken))

@@ -1,0 +1,131 @@
+// Amounts of one entry of a table by document 01, "One beacon", steps A to C: its load, its rank, what it is owed, what it may still get
+// and its part of what remains.
+ghost use mathlib.Core.Path.{_≡_};
+ghost use Prim.Native.Nat.{_+_, _*_, _-_, min};
+ghost use Rattle.model.specs.Entries.{isPiece};
+ghost use Rattle.rules.specs.Share.{jobCount, extra};
+ghost use Rattle.rules.specs.Slots.{jobLength};
+ghost use Rattle.amounts.specs.Amounts.{loadOf, owedTo, limitOf};
+use model::Entry;
+use model::Slots;
+
+// a less b, and 0 where b is larger.
+pub fn less(a: u32, b: u32) -> u32
+    ensures { λ r. ⌜ r ≡ a - b ⌝ }
+{
+    if a <= b {
+        return 0;
+    }
+    a - b
+}
+
+pub fn smaller(a: u32, b: u32) -> u32
+    ensures { λ r. ⌜ r ≡ min a b ⌝ }
+{
+    if a <= b {
+        return a;
+    }
+    b
+}
+
+// Slots less what is taken of them, and 0 where that is more.
+pub fn left_of(slots: Slots, taken: u64) -> Slots
+    ensures { λ r. ⌜ r .0 ≡ slots .0 - taken ⌝ }
+{
+    let all = slots.0 as u64;
+    if all <= taken {
+        return Slots(0);
+    }
+    Slots((all - taken) as u32)
+}
+
+// ---- the jobs of an entry in an interval: m for kind 1, one piece for the others
+pub fn job_count(e: Entry) -> u32
+    ensures { λ r. ⌜ r ≡ jobCount e ⌝ }
+{
+    let kind = e.kind;
+    if kind == 1 {
+        return e.parts;
+    }
+    1
+}
+
+pub fn job_length(interval: Slots, e: Entry) -> Slots
+    ensures { λ r. ⌜ r .0 ≡ jobLength (interval .0) e ⌝ }
+{
+    let kind = e.kind;
+    if kind == 1 {
+        return Slots(ranges::part_of(interval.0, e.parts));
+    }
+    interval
+}
+
+// ---- A. capacity
+// What a kind 1 stream takes of an interval: m times its minimum.
+pub fn load_of(e: Entry) -> u64
+    ensures { λ r. ⌜ r ≡ loadOf e ⌝ }
+{
+    let kind = e.kind;
+    if kind != 1 {
+        return 0;
+    }
+    let parts = e.parts as u64;
+    let least = e.min.0 as u64;
+    parts * least
+}
+
+// ---- B. kinds 2 and 3 take what they are owed
+pub fn is_piece(e: Entry) -> bool
+    ensures { λ r. ⌜ r ≡ isPiece e ⌝ }
+{
+    let kind = e.kind;
+    kind == 2 || kind == 3
+}
+
+// Fewest intervals left, then kind 2 before 3, then lower stream number, as one number: the lower comes sooner.
+pub fn rank(left: u32, kind: u32, stream: u32) -> u64
+    ensures { λ r. ⌜ r ≡ (left * 4 + kind) * 65536 + stream ⌝ }
+{
+    ((left as u64) * 4 + (kind as u64)) * 65536 + (stream as u64)
+}
+
+pub fn owed_of(e: Entry) -> u32
+    ensures { λ r. ⌜ r ≡ owedTo e ⌝ }
+{
+    if is_piece(e) {
+        return e.owed.0;
+    }
+    0
+}
+
+// ---- C. what remains is shared in proportion
+// What an entry may still get before its slots of step B; a transfer has no part in step C.
+pub fn limit_of(e: Entry) -> u32
+    ensures { λ r. ⌜ r ≡ limitOf e ⌝ }
+{
+    let kind = e.kind;
+    let most = e.max.0;
+    if kind == 1 {
+        return less(most, e.min.0);
+    }
+    if kind == 2 {
+        return less(most, e.given.0);
+    }
+    0
+}
+
+// The part of what remains is no more than the headroom, so it has 32 bits as well.
+pub fn extra(remains: Slots, weight: u64, headroom: Slots) -> Slots
+    ensures { λ r. ⌜ r .0 ≡ extra (remains .0) weight (headroom .0) ⌝ }
+{
+    let rest = remains.0 as u64;
+    let room = headroom.0 as u64;
+    if rest == 0 {
+        return Slots(0);
+    }
+    if weight <= rest {
+        return headroom;
+    }
+    let part = room * rest / weight;
+    Slots(part as u32)
+}
