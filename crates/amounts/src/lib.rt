@@ -22,7 +22,7 @@ pub fn less(a: u32, b: u32) -> u32
 pub fn smaller(a: u32, b: u32) -> u32
     ensures { λ r. ⌜ r ≡ min a b ⌝ }
 {
-    if a <= b {
+    if a < b {
         return a;
     }
     b

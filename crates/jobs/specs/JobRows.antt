@@ -20,7 +20,7 @@ use Rattle.laws.specs.Closed.{slots-most}
 use Rattle.ahead.specs.Tables.{tidy-together}
 use Rattle.interval.specs.Jobs.{tie-sum, all-tie, jobs-keys}
 use Rattle.laws.specs.Ranks.{rank}
-use Rattle.share.specs.Queues.{Used}
+use Rattle.share.specs.Queues.{Used, jobs-few}
 use Rattle.share.specs.Shares.{sharingOf, grantOf, grants-right}
 use Rattle.share.specs.declared.Sharing.{Sharing}
 use Rattle.order.specs.Filled.{filled, filled-behind, filled-all}
@@ -31,7 +31,7 @@ use Rattle.plan.specs.Rows.{rowFrom, rowJobs, rowPlan, Rows, Spare}
 use Rattle.plan.specs.RowLaws.{Wide, row-skipped, plan-skipped}
 use Rattle.plan.specs.Skipped.{Skipped, over, skipped-append, skipped-names}
 use Rattle.jobs.specs.Needs.{needBy, needsRow, rowBy, length-row}
-use Rattle.jobs.specs.Limits.{free-none, narrow-places, length-free, length-held}
+use Rattle.jobs.specs.Limits.{free-none, length-free, length-held}
 use Rattle.jobs.specs.Listing.{Listed, entryAt, rowsIn, rows-size, rows-spare}
 
 module _ (B : ℕ) (s : Sharing) (ps : List Entry) where
@@ -107,8 +107,8 @@ module _ (t : Table) (w : Tidy t) where
   rows-wide =
       all-of-map (rowBy sh (t .entries))
       (filled-all _ (length-row 1 (needBy (grantOf sh (t .entries) freeEntry) freeEntry) (omega arith))
-      (all-tie (tidy-held w) (all-keep isHeld (λ e q n. length-row (jobCount e) (needBy (grantOf sh (t .entries) e) e) (n .few))
-      (narrow-places t w))))
+      (all-tie (tidy-held w) (all-keep isHeld (λ e q n. length-row (jobCount e) (needBy (grantOf sh (t .entries) e) e) n)
+      (jobs-few t w))))
 
   rows-plan : rowPlan B (map (λ (e : Entry). e .stream) os) (map (jobLength B) os) (map (rowBy sh (t .entries)) os) ≡ planOf t
   unfolding planOf stepE stepD

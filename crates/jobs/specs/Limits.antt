@@ -1,4 +1,4 @@
--- How many jobs an entry of a table has, how long they are and how much they need: they fit the rows. Assumes nothing.
+-- How long the jobs of an entry of a table are and how much they need: they fit the rows. Assumes nothing.
 use mathlib.Core.Path.{_≡_, ap}
 use mathlib.Core.Bool.{Bool, cond}
 use Prim.Native.Nat.{ℕ, _+_, _*_, _/_, _≤_}
@@ -10,7 +10,7 @@ use Rattle.lists.specs.All.{All, all-keep}
 use Rattle.model.specs.Entries.{freeEntry, isHeld, isKind}
 use Rattle.model.specs.declared.Entry.{Entry}
 use Rattle.model.specs.declared.Table.{Table}
-use Rattle.rules.specs.Share.{capacity, headroom, jobCount, remains, stepB, weight}
+use Rattle.rules.specs.Share.{capacity, headroom, remains, stepB, weight}
 use Rattle.rules.specs.Slots.{jobLength}
 use Rattle.rules.specs.Calls.{heldOf}
 use Rattle.laws.specs.Held.{Fraction, Piece, not-fraction}
@@ -47,9 +47,6 @@ module _ (t : Table) (w : Tidy t) where
   pub free-none : needBy (grantOf sh (t .entries) freeEntry) freeEntry ≡ 0
   free-none = omega (arith, more-le freeEntry, takes-owed (capacity B (heldOf t)) (t .entries) freeEntry)
 
-  narrow-free : Narrow sh (t .entries) freeEntry
-  narrow-free = record { few = omega arith; small = omega (arith, free-none) }
-
   -- m parts are the whole, so one is at most the whole
   part-le : (e : Entry) → Fraction B e → (B / e .parts) * 2 ≤ B
   part-le e f = omega (arith, mul-le-mul-left (B / e .parts) (f .parts-least), f .whole)
@@ -59,54 +56,42 @@ module _ (t : Table) (w : Tidy t) where
       → needBy (grantOf sh (t .entries) e) e ≡ cond b (e .min .0 + more e) (piece e + more e)
   need-by e q = ap (λ b. cond b (e .min .0 + more e) (piece e + more e)) q
 
-  count-by : (e : Entry) {b : Bool} → isKind 1 e ≡ b → jobCount e ≡ cond b (e .parts) 1
-  count-by e q = ap (λ b. cond b (e .parts) 1) q
-
   pub narrow-places : All (Narrow sh (t .entries)) (t .entries)
-  narrow-places = by-kind t w (Narrow sh (t .entries)) narrow-free fraction whole transfer
+  narrow-places = by-kind t w (Narrow sh (t .entries)) (omega (arith, free-none)) fraction whole transfer
     where
       fraction : (e : Entry) → Fraction B e → Narrow sh (t .entries) e
       fraction e f =
           let q = eq-eqb (e .kind) 1 (f .kind) in
-          record {
-            few = omega (arith, count-by e q, f .parts-most);
-            small = omega (
-              arith,
-              need-by e q,
-              more-le e,
-              headroom-fraction e (piece e) (f .kind),
-              f .least,
-              f .most,
-              part-le e f,
-              slots-most t w,
-            );
-          }
+          omega (
+            arith,
+            need-by e q,
+            more-le e,
+            headroom-fraction e (piece e) (f .kind),
+            f .least,
+            f .most,
+            part-le e f,
+            slots-most t w,
+          )
 
       whole : (e : Entry) → Piece B e → e .kind ≡ 2 → Narrow sh (t .entries) e
       whole e p k =
           let q = not-fraction e (p .kind) in
           let period = mul-le-mul-right B (p .period-whole k) in
-          record {
-            few = omega (arith, count-by e q);
-            small = omega (
-              arith,
-              need-by e q,
-              piece-le e,
-              more-le e,
-              headroom-whole e (piece e) k,
-              p .most k,
-              period,
-              slots-most t w,
-            );
-          }
+          omega (
+            arith,
+            need-by e q,
+            piece-le e,
+            more-le e,
+            headroom-whole e (piece e) k,
+            p .most k,
+            period,
+            slots-most t w,
+          )
 
       transfer : (e : Entry) → Piece B e → e .kind ≡ 3 → Narrow sh (t .entries) e
       transfer e p k =
           let q = not-fraction e (p .kind) in
-          record {
-            few = omega (arith, count-by e q);
-            small = omega (arith, need-by e q, piece-le e, more-le e, headroom-transfer e (piece e) k, slots-most t w);
-          }
+          omega (arith, need-by e q, piece-le e, more-le e, headroom-transfer e (piece e) k, slots-most t w)
 
   -- ---- lengths
   some-slots : 1 ≤ B

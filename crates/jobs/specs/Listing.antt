@@ -4,7 +4,7 @@ use mathlib.Core.Path.{_≡_, refl, sym, ap, subst, subst₂, _∙_}
 use mathlib.Core.List.{List, _++_, map}
 use Prim.Native.Nat.{ℕ, _+_, _-_, _≤_, _<_}
 use native.Mathlib.Omega.{arith}
-use lib.ListN.{length, take, drop, set, getD, replicate, length-map, length-append, length-replicate, List·getD-append}
+use lib.ListN.{length, take, set, getD, replicate, length-map, length-append, length-replicate, List·getD-append}
 use lib.Seq.{getD-take, length-take-le, drop-append-seam}
 use Rattle.lists.specs.All.{All, all-at, all-replicate}
 use Rattle.lists.specs.Loops.{map-at}

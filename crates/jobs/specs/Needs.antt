@@ -25,10 +25,9 @@ needsRow count need = replicate count need ++ replicate (16 - count) 0
 abbrev pub rowBy : Sharing → List Entry → Entry → List ℕ
 rowBy s ps e = needsRow (jobCount e) (needBy (grantOf s ps e) e)
 
--- at most sixteen jobs, and needs of 32 bits
-pub record Narrow (s : Sharing) (ps : List Entry) (e : Entry) : Type 0 where
-  pub few : jobCount e ≤ 16
-  pub small : needBy (grantOf s ps e) e ≤ 4294967295
+-- its needs have 32 bits
+abbrev pub Narrow : Sharing → List Entry → Entry → Type 0
+Narrow s ps e = needBy (grantOf s ps e) e ≤ 4294967295
 
 -- one job more
 row-more : (j m v : ℕ) → set (replicate j v ++ replicate (suc m) 0) j v ≡ replicate (suc j) v ++ replicate m 0

@@ -1,16 +1,14 @@
 // The jobs of an interval as rows, one row of at most sixteen needs for each held entry in the tie order, and the plan of a table written
 // from them. Document 01, "One beacon", steps D and E.
-ghost use mathlib.Core.List.{_++_, map};
+ghost use mathlib.Core.List.{_++_};
 ghost use mathlib.Core.Path.{_≡_};
 ghost use Prim.Native.Nat.{_+_, _*_, _≤_};
 ghost use lib.ListN.{length, drop};
-ghost use Rattle.rules.specs.Slots.{jobLength};
 ghost use Rattle.rules.specs.Calls.{wordsOf, planOf};
 ghost use Rattle.laws.specs.Places.{Tidy};
 ghost use Rattle.share.specs.Queues.{Queued};
-ghost use Rattle.share.specs.Shares.{sharingOf, sharesOf};
-ghost use Rattle.jobs.specs.Needs.{needBy, needsRow, rowBy};
-ghost use Rattle.jobs.specs.Listing.{Listed, rowsIn};
+ghost use Rattle.share.specs.Shares.{sharesOf};
+ghost use Rattle.jobs.specs.Needs.{needBy, needsRow};
 use model::Entry;
 use model::Slots;
 use model::Table;

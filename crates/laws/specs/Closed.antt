@@ -5,7 +5,7 @@ use mathlib.Core.Logic.{_⊎_, inl, inr, ⊎-elim}
 use mathlib.Core.Bool.{true, false, cond}
 use mathlib.Core.List.{List, [], _∷_}
 use Prim.Native.Nat.{ℕ, _+_, _*_, _-_, _/_, _≤_, min, max, zero-le}
-use native.Mathlib.Nat.{one-mul, mul-comm, mul-le-mul-left, mul-le-mul-right}
+use native.Mathlib.Nat.{mul-comm, mul-le-mul-left}
 use native.Mathlib.Omega.{arith}
 use lib.Dec.{eqb}
 use Rattle.lists.specs.Lists.{sumOf}
@@ -39,12 +39,9 @@ pub takes-most : (c : ℕ) (ps : List Entry) (e : Entry) → takes c ps e ≤ c
 unfolding takes
 takes-most c ps e = omega arith
 
--- an interval has at most 1,000 time units of 1,024 slots; a period of kind 2 has at most 255 intervals
+-- an interval has at most 1,000 time units of 1,024 slots
 abbrev pub mostSlots : ℕ
 mostSlots = 1000 * 1024
-
-abbrev pub mostWeight : ℕ
-mostWeight = 255 * mostSlots
 
 -- ---- who has no turn in step B gets nothing of it
 turns-none : (s r : ℕ) (es : List Entry) → All (λ e. eqb (e .stream) s ≡ false) es → slotsFor s (take-turns r es) ≡ 0
@@ -127,20 +124,6 @@ module _ (t : Table) (w : Tidy t) where
       by-kind (λ e. cond (isKind 1 e) (e .parts * e .min .0) 0 ≤ mostSlots) zero-le
       (λ e f. rw (f .kind) (parts-most e f (e .min .0) (f .least)))
       (λ e p k. rw k zero-le)
-      (λ e p k. rw k zero-le)
-
-  pub weight-most : (b : Entry → ℕ) → All (λ e. jobCount e * headroom e (b e) ≤ mostWeight) (t .entries)
-  weight-most b =
-      by-kind (λ e. jobCount e * headroom e (b e) ≤ mostWeight) zero-le
-      (λ e f. rw (f .kind) (omega (arith, parts-most e f (e .max .0 - e .min .0) (omega arith))))
-      (λ e p k. rw k
-      (omega (
-        arith,
-        slots-most,
-        p .most k,
-        mul-le-mul-right B (p .period-whole k),
-        one-mul (e .max .0 - e .given .0 - b e),
-      )))
       (λ e p k. rw k zero-le)
 
   -- what an entry has been given in its period, with what it takes and an extra within its headroom, stays within its amounts

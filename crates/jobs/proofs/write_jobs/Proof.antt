@@ -9,6 +9,8 @@ use Rattle.model.specs.Entries.{freeEntry}
 use Rattle.model.specs.declared.Entry.{Entry}
 use Rattle.rules.specs.Calls.{wordsOf, planOf}
 use Rattle.laws.specs.Ranks.{rank, rankMost}
+use Rattle.rules.specs.Share.{jobCount}
+use Rattle.share.specs.Queues.{jobs-few}
 use Rattle.share.specs.Shares.{granted, sharingOf, grantOf, piece-found, extra-found}
 use Rattle.amounts.proofs.Known.{inside}
 use Rattle.order.specs.Listed.{orderOf}
@@ -119,14 +121,19 @@ module _ (c : tie.After-e Inv-loop μ-loop) where
       let t = start .args .t1 in
       all-at (Narrow (sharingOf t) (t .entries)) (t .entries) freeEntry (narrow-places t (start .pre .0 .0)) at reads
 
+  few : jobCount (own c) ≤ 16
+  few =
+      let t = start .args .t1 in
+      all-at (λ e. jobCount e ≤ 16) (t .entries) freeEntry (jobs-few t (start .pre .0 .0)) at reads
+
 need-of-requires : tie.Need-need-of-requires Inv-loop μ-loop
-need-of-requires c κs = (let e = c .before .before .before in rw (pieced e, extended e) (narrow e .small))
+need-of-requires c κs = (let e = c .before .before .before in rw (pieced e, extended e) (narrow e))
 
 job-count-requires : tie.Need-job-count-requires Inv-loop μ-loop
 job-count-requires c κs = search needs
 
 row-of-requires : tie.Need-row-of-requires Inv-loop μ-loop
-row-of-requires c κs = rw (c .job-count .ensures) (narrow (c .before .before .before .before .before) .few)
+row-of-requires c κs = rw (c .job-count .ensures) (few (c .before .before .before .before .before))
 
 mul-streams : tie.Need-mul-streams Inv-loop μ-loop
 mul-streams c = search (needs, row-inside (c .before .before .before .before .before .before .before .before))
