@@ -7,7 +7,7 @@ use native.Mathlib.Omega.{arith}
 use lib.ListN.{length, drop, replicate, length-append}
 use lib.Seq.{take-append-seam}
 use Rattle.lists.specs.Lists.{sumOf, concatMap}
-use Rattle.lists.specs.All.{All, stop, and, all-map, all-of-map, all-keep}
+use Rattle.lists.specs.All.{All, stop, and, all-map, all-of-map}
 use Rattle.lists.specs.Sums.{sum-keep-le}
 use Rattle.model.specs.Entries.{freeEntry, isHeld}
 use Rattle.model.specs.declared.Entry.{Entry}
@@ -20,7 +20,7 @@ use Rattle.laws.specs.Closed.{slots-most}
 use Rattle.ahead.specs.Tables.{tidy-together}
 use Rattle.interval.specs.Jobs.{tie-sum, all-tie, jobs-keys}
 use Rattle.laws.specs.Ranks.{rank}
-use Rattle.share.specs.Queues.{Used, jobs-few}
+use Rattle.share.specs.Queues.{Used}
 use Rattle.share.specs.Shares.{sharingOf, grantOf, grants-right}
 use Rattle.share.specs.declared.Sharing.{Sharing}
 use Rattle.order.specs.Filled.{filled, filled-behind, filled-all}
@@ -28,11 +28,11 @@ use Rattle.order.specs.Listed.{listed, orderOf}
 use Rattle.order.specs.TiePlaces.{listed-ties, listed-places, listed-length}
 use Rattle.order.specs.declared.Order.{Order}
 use Rattle.plan.specs.Rows.{rowFrom, rowJobs, rowPlan, Rows, Spare}
-use Rattle.plan.specs.RowLaws.{Wide, row-skipped, plan-skipped}
+use Rattle.plan.specs.RowLaws.{row-skipped, plan-skipped}
 use Rattle.plan.specs.Skipped.{Skipped, over, skipped-append, skipped-names}
-use Rattle.jobs.specs.Needs.{needBy, needsRow, rowBy, length-row}
+use Rattle.jobs.specs.Needs.{needBy, needsRow, rowBy}
 use Rattle.jobs.specs.Limits.{free-none, length-free, length-held}
-use Rattle.jobs.specs.Listing.{Listed, entryAt, rowsIn, rows-size, rows-spare}
+use Rattle.jobs.specs.Listing.{Listed, entryAt, rowsIn, rows-spare}
 
 module _ (B : ℕ) (s : Sharing) (ps : List Entry) where
   abbrev rowsOf : List Entry → List Job
@@ -103,13 +103,6 @@ module _ (t : Table) (w : Tidy t) where
         names = skipped-names table-skipped (jobs-keys (tidy-together w));
       }
 
-  rows-wide : Wide (map (rowBy sh (t .entries)) os)
-  rows-wide =
-      all-of-map (rowBy sh (t .entries))
-      (filled-all _ (length-row 1 (needBy (grantOf sh (t .entries) freeEntry) freeEntry) (omega arith))
-      (all-tie (tidy-held w) (all-keep isHeld (λ e q n. length-row (jobCount e) (needBy (grantOf sh (t .entries) e) e) n)
-      (jobs-few t w))))
-
   rows-plan : rowPlan B (map (λ (e : Entry). e .stream) os) (map (jobLength B) os) (map (rowBy sh (t .entries)) os) ≡ planOf t
   unfolding planOf stepE stepD
   rows-plan = plan-skipped B _ _ _ table-skipped
@@ -142,12 +135,6 @@ module _ (t : Table) (w : Tidy t) {n : ℕ} (u : Used n t) {o : Order} (e : o �
       (b : Ts ≡ map (jobLength (t .interval .0)) (rowsIn t o)) (d : nss ≡ map (rowBy (sharingOf t) (t .entries)) (rowsIn t o)) where
     pub plan-made : Rows (t .interval .0) ss Ts nss × (rowPlan (t .interval .0) ss Ts nss ≡ planOf t)
     plan-made = rw (a, b, d, rows-tied) (rows-fit t w, rows-plan t w)
-
-    pub wide-made : (length nss ≡ 32) × Wide nss
-    wide-made = (
-      ap length d ∙ rows-size t o order-listed (rowBy (sharingOf t) (t .entries)),
-      rw (d, rows-tied) (rows-wide t w),
-    )
 
     pub spare-made : (o .count ≤ 32) × Spare (t .interval .0) (o .count) Ts nss
     spare-made = (

@@ -71,5 +71,5 @@ pub fn write_jobs(t: Table, q: Queue, s: Shares, plan: &mut [u32]) -> usize
         lengths[k] = length.0;
         needs[k] = row;
     }
-    plan::write_plan(interval.0, count, streams, lengths, &mut needs, plan)
+    plan::write_plan(interval.0, count, streams, lengths, needs, plan)
 }

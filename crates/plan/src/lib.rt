@@ -10,7 +10,6 @@ ghost use Rattle.lists.specs.All.{All};
 ghost use Rattle.rules.specs.Slots.{run};
 ghost use Rattle.rules.specs.Calls.{wordsOf};
 ghost use Rattle.plan.specs.Rows.{Length, Rows, Padded, Spare, rowPlan};
-ghost use Rattle.plan.specs.RowLaws.{Wide};
 ghost use Rattle.plan.specs.Heads.{firstLeft};
 ghost use Rattle.plan.specs.Next.{nextOf};
 ghost use Rattle.plan.specs.Places.{Short, never, releaseOf, releasesOf, chosenAt};
@@ -207,22 +206,22 @@ fn blank_pen() -> Pen
 }
 
 // The records of the plan in the first words, and how many there are. Every later word stays as it was. Only the first rows have jobs, so
-// that the work grows with them. The needs are lent and used up as the jobs run: a copy would cost more than a small plan does.
+// that the work grows with them.
 pub fn write_plan(
     b: u32,
     rows: usize,
     streams: [u32; 32],
     lengths: [u32; 32],
-    left: &mut [[u32; 16]; 32],
+    needs: [[u32; 16]; 32],
     plan: &mut [u32],
 ) -> usize
-    requires { ⌜ Rows b streams lengths (now left) × (4096 ≤ length (now plan)) ⌝ }
-    requires { ⌜ (rows ≤ 32) × Spare b rows lengths (now left) ⌝ }
-    requires { ⌜ (length (now left) ≡ 32) × Wide (now left) ⌝ }
-    ensures { λ r. let runs = rowPlan b streams lengths (now (left .entry)) in ⌜ (r ≡ length runs) × ((r ≤ 1024)
-        × (now (plan .exit) ≡ wordsOf runs ++ drop (4 * r) (now (plan .entry)))) ⌝ }
+    requires { ⌜ Rows b streams lengths needs × (4096 ≤ length (now plan)) ⌝ }
+    requires { ⌜ (rows ≤ 32) × Spare b rows lengths needs ⌝ }
+    ensures { λ r. ⌜ (r ≡ length (rowPlan b streams lengths needs)) × ((r ≤ 1024)
+        × (now (plan .exit) ≡ wordsOf (rowPlan b streams lengths needs) ++ drop (4 * r) (now (plan .entry)))) ⌝ }
 {
-    let mut heads = first_jobs(rows, left);
+    let mut left = needs;
+    let mut heads = first_jobs(rows, &left);
     let mut releases = first_releases(rows, &lengths, &heads);
     let mut pen = blank_pen();
     let mut t: u32 = 0;

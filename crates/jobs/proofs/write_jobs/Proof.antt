@@ -16,12 +16,11 @@ use Rattle.amounts.proofs.Known.{inside}
 use Rattle.order.specs.Listed.{orderOf}
 use Rattle.order.specs.TiePlaces.{ranks-most}
 use Rattle.plan.specs.Rows.{Rows, Spare, rowPlan}
-use Rattle.plan.specs.RowLaws.{Wide}
 use Rattle.jobs.specs.Needs.{needBy, needsRow, Narrow}
 use Rattle.jobs.specs.Limits.{narrow-places}
 use Rattle.jobs.specs.Listing.{Listed, entryAt, place-inside}
 use Rattle.jobs.specs.Making.{Making, making-starts, making-more, making-ends}
-use Rattle.jobs.specs.JobRows.{order-listed, plan-made, wide-made, spare-made}
+use Rattle.jobs.specs.JobRows.{order-listed, plan-made, spare-made}
 use borrow.Author.Needs.{needs}
 use Rattle.jobs.proofs.write_jobs.Statement.{statement}
 use Rattle.jobs.proofs.write_jobs.Tie as tie
@@ -173,25 +172,20 @@ loop-again c =
 made : (c : tie.After-loop Inv-loop μ-loop) → (let l = c .before .loop in let o = c .before .before .before in
     let t = o .before .before .before .args .t1 in
     Rows (t .interval .0) (l .streams) (l .lengths) (l .needs) × (rowPlan (t .interval .0) (l .streams) (l .lengths) (l .needs) ≡ planOf t)
-    × ((o .ordered .result .count ≤ 32) × Spare (t .interval .0) (o .ordered .result .count) (l .lengths) (l .needs))
-    × ((length (l .needs) ≡ 32) × Wide (l .needs)))
+    × ((o .ordered .result .count ≤ 32) × Spare (t .interval .0) (o .ordered .result .count) (l .lengths) (l .needs)))
 made c =
     let o = c .before .before .before in
     let s = o .before .before .before in
     let t = s .args .t1 in
     let m = making-ends t (o .ordered .result) (listed o) (c .before .loop .inv) (c .loop-test .left) in
     let u = s .pre .0 .1 .used in
-    let p = plan-made t (s .pre .0 .0) u (order o) (m .0) (m .1) (m .2) in (
-      p .0,
-      p .1,
-      spare-made t (s .pre .0 .0) u (order o) (m .0) (m .1) (m .2),
-      wide-made t (s .pre .0 .0) u (order o) (m .0) (m .1) (m .2),
-    )
+    let p = plan-made t (s .pre .0 .0) u (order o) (m .0) (m .1) (m .2) in
+    (p .0, p .1, spare-made t (s .pre .0 .0) u (order o) (m .0) (m .1) (m .2))
 
 write-plan-requires : tie.Need-write-plan-requires Inv-loop μ-loop
 write-plan-requires c κs =
-    let m = made (c .before .before) in
-    ((m .0, search needs), (m .2, m .3))
+    let m = made (c .before) in
+    ((m .0, search needs), m .2)
 
 same-length : tie.Need-same-length Inv-loop μ-loop
 same-length c = search needs
@@ -199,8 +193,8 @@ same-length c = search needs
 returns : tie.Need-returns Inv-loop μ-loop
 returns c =
     let p = c .before .before in
-    let s = p .before .before .before .before .before .before .before .before .before in
-    let plan = made (p .before .before .before) .1 in
+    let s = p .before .before .before .before .before .before .before .before in
+    let plan = made (p .before .before) .1 in
     let e = p .write-plan .ensures in
     (e .0 ∙ ap length plan, e .1 .1 ∙ ap (λ rs. wordsOf rs ++ drop (4 * p .write-plan .result) (now (s .args .plan))) plan)
 

@@ -9,11 +9,12 @@ use Prim.Native.Nat.{ℕ, _≤_, _<_, _+_, _*_, _-_, min}
 use native.Mathlib.Omega.{arith}
 use lib.ListN.{length, getD, replicate}
 use borrow.Author.Needs.{needs}
+use denote.Array.{Array}
 use denote.Builtin.{u32}
 use Rattle.lists.specs.All.{all-at}
 use Rattle.rules.specs.Slots.{Job, Run, choose}
 use Rattle.plan.specs.Rows.{rowJobs, rowPlan, Padded}
-use Rattle.plan.specs.RowLaws.{needAt, withNeed, jobIn, plan-few}
+use Rattle.plan.specs.RowLaws.{needAt, withNeed, jobIn, Wide, plan-few}
 use Rattle.plan.specs.Heads.{heads-padded}
 use Rattle.plan.specs.Kept.{Kept, kept-padded, kept-changed, kept-same}
 use Rattle.plan.specs.Next.{next-same, nextOf}
@@ -21,16 +22,17 @@ use Rattle.plan.specs.Turns.{turns}
 use Rattle.plan.specs.Steps.{Given, lengths-short, State, begin, room, finish, chosen-needs, none-chosen, job-chosen}
 use Rattle.plan.specs.Steps.{coming, idle-less, idle-step, job-less, job-step}
 use Rattle.lists.proofs.Known.{sized}
+use Rattle.plan.proofs.Known.{wide}
 use Rattle.plan.proofs.write_plan.Statement.{statement}
 use Rattle.plan.proofs.write_plan.Tie as tie
 
 abbrev Inv-loop : tie.InvT-loop
-Inv-loop b rows left₀ plan₀ streams lengths heads₀ releases₀ pen₀ t₀ next₀ left plan heads releases pen t next =
+Inv-loop b rows plan₀ streams lengths left₀ heads₀ releases₀ pen₀ t₀ next₀ plan left heads releases pen t next =
     State b t streams lengths (rowPlan b streams lengths left₀) plan₀ plan left pen
     × (Kept rows lengths left heads releases × (t < next → next ≡ nextOf b t lengths))
 
 abbrev μ-loop : tie.MeasureT-loop
-μ-loop b rows left₀ plan₀ streams lengths heads₀ releases₀ pen₀ t₀ next₀ left plan heads releases pen t next =
+μ-loop b rows plan₀ streams lengths left₀ heads₀ releases₀ pen₀ t₀ next₀ plan left heads releases pen t next =
     turns b t (rowJobs streams lengths left)
 
 -- the function's entry, from a turn of the loop
@@ -38,7 +40,7 @@ abbrev entry : tie.At-loop Inv-loop μ-loop → tie.Start Inv-loop μ-loop
 entry l = l .before .before .before .before .before .before .before .before
 
 abbrev total : tie.Start Inv-loop μ-loop → List Run
-total z = rowPlan (z .args .b) (z .args .t3) (z .args .t4) (z .args .left .now)
+total z = rowPlan (z .args .b) (z .args .t3) (z .args .t4) (z .args .needs)
 
 -- what is given of the rows, and how long the arrays are
 given : (z : tie.Start Inv-loop μ-loop) → Given (z .args .b) (z .args .t3) (z .args .t4)
@@ -50,11 +52,14 @@ given z =
       each = z .pre .0 .0 .each;
     }
 
-needs-padded : (z : tie.Start Inv-loop μ-loop) → Padded (z .args .rows) (replicate 16 0) (z .args .left .now)
-needs-padded z = (z .pre .1 .1 .0, (z .pre .1 .0 .0, z .pre .1 .0 .1 .needs))
+rows-sized : (z : tie.Start Inv-loop μ-loop) → (length (z .args .needs) ≡ 32) × Wide (z .args .needs)
+rows-sized z = (sized (Array u32 16) 32 (z .args .needs) (z .good .1 .1 .1 .1 .0), wide 32 (z .args .needs) _ (z .good .1 .1 .1 .1 .0))
+
+needs-padded : (z : tie.Start Inv-loop μ-loop) → Padded (z .args .rows) (replicate 16 0) (z .args .needs)
+needs-padded z = (rows-sized z .0, (z .pre .1 .0, z .pre .1 .1 .needs))
 
 few : (z : tie.Start Inv-loop μ-loop) → length (total z) ≤ 992
-few z = plan-few (z .pre .0 .0) (z .pre .1 .1 .0) (z .pre .1 .1 .1)
+few z = plan-few (z .pre .0 .0) (rows-sized z .0) (rows-sized z .1)
 
 -- the words lent are as many as they were, and there is room for a record more
 spare : (l : tie.At-loop Inv-loop μ-loop)
@@ -146,7 +151,7 @@ first-releases-requires : tie.Need-first-releases-requires Inv-loop μ-loop
 first-releases-requires c κs =
     let f = c .before .before in
     let z = f .before .before .before in
-    let padded = heads-padded (z .args .rows) (z .args .left .now) (needs-padded z) in
+    let padded = heads-padded (z .args .rows) (z .args .needs) (needs-padded z) in
     ((given z .lengths, lengths-short (given z)), subst (Padded (z .args .rows) 16) (sym (f .first-jobs .ensures)) padded)
 
 blank-pen-requires : tie.Need-blank-pen-requires Inv-loop μ-loop
@@ -157,8 +162,8 @@ loop-holds c =
     let f = c .before .before .before .before in
     let z = f .before .before .before in
     let r = c .before .first-releases .ensures in (
-      begin (z .args .plan .now) (z .pre .0 .0) (given z) (z .pre .1 .1 .0) (z .pre .1 .1 .1) (c .blank-pen .ensures),
-      (record { heads = f .first-jobs .ensures; releases = r; spare = z .pre .1 .0 .1 .needs }, λ h. absurd (omega arith)),
+      begin (z .args .plan .now) (z .pre .0 .0) (given z) (rows-sized z .0) (rows-sized z .1) (c .blank-pen .ensures),
+      (record { heads = f .first-jobs .ensures; releases = r; spare = z .pre .1 .1 .needs }, λ h. absurd (omega arith)),
     )
 
 next-after-requires : tie.Need-next-after-requires Inv-loop μ-loop
@@ -166,7 +171,7 @@ next-after-requires c κs =
     let w = c .before in
     let z = entry (w .before) in (
       (w .loop-test .taken, (z .pre .0 .0 .short, (z .pre .0 .0 .each, w .before .loop .inv .1 .1))),
-      (given z .lengths, (z .pre .1 .0 .0, z .pre .1 .0 .1 .lengths)),
+      (given z .lengths, (z .pre .1 .0, z .pre .1 .1 .lengths)),
     )
 
 choose-place-requires : tie.Need-choose-place-requires Inv-loop μ-loop
@@ -175,7 +180,7 @@ choose-place-requires c κs =
     let l = w .before in
     let g = given (entry l) in (
       (omega (arith, w .loop-test .taken, g .short), (g .lengths, lengths-short g)),
-      kept-padded (l .loop .inv .1 .0) (g .lengths) (l .loop .inv .0 .rows) (entry l .pre .1 .0 .0),
+      kept-padded (l .loop .inv .1 .0) (g .lengths) (l .loop .inv .0 .rows) (entry l .pre .1 .0),
     )
 
 mul-j : tie.Need-mul-j Inv-loop μ-loop
@@ -220,8 +225,8 @@ index-2-left c = chosen (job c) .1
 mul-first-left : tie.Need-mul-first-left Inv-loop μ-loop
 mul-first-left c = search needs
 
-element-copy-out-first-left : tie.Need-element-copy-out-first-left Inv-loop μ-loop
-element-copy-out-first-left c = search needs
+array-copy-out-first-left : tie.Need-array-copy-out-first-left Inv-loop μ-loop
+array-copy-out-first-left c = search needs
 
 first-left-requires : tie.Need-first-left-requires Inv-loop μ-loop
 first-left-requires c κs = search needs
@@ -357,7 +362,7 @@ write-plan-spec =
     index-1-left
     index-2-left
     mul-first-left
-    element-copy-out-first-left
+    array-copy-out-first-left
     first-left-requires
     mul-heads
     array-write-heads
