@@ -10,7 +10,6 @@ ghost use Rattle.lists.specs.First.{firstOf};
 ghost use Rattle.rules.specs.Calls.{openAnswer, opened, offerAnswer, offered, heldAnswer, withdrawn, beacon};
 ghost use Rattle.rules.specs.Reading.{enquired, windowAnswer, windowPart};
 ghost use Rattle.rules.specs.WellFormed.{WellFormed};
-ghost use Rattle.planner.specs.Changes.{putIn};
 ghost use Rattle.planner.specs.Numbers.{request};
 ghost use Rattle.survey.specs.Search.{isHeldAs};
 use model::Entry;
@@ -29,46 +28,6 @@ pub struct Sent {
 pub struct Found {
     pub answer: u32,
     pub entry: Entry,
-}
-
-// ---- an offer by value
-// An offer's answer, and what it puts in the table: its entry, at a place. Place 32 stands for none.
-pub struct Decided {
-    pub answer: u32,
-    pub place: usize,
-    pub entry: Entry,
-}
-
-fn decide_step(
-    t: Table,
-    stream: u32,
-    kind: u32,
-    period: u32,
-    min: u32,
-    max: u32,
-    life: u32,
-) -> Decided
-    requires { ⌜ WellFormed t ⌝ }
-    ensures { λ r. let q = request stream kind period min max life in
-        ⌜ (r .answer ≡ offerAnswer t q) × (putIn t (r .place) (r .entry) ≡ offered t q) ⌝ }
-{
-    let q = Request {
-        stream,
-        kind,
-        period,
-        min,
-        max,
-        life,
-    };
-    let d = planner::decide(t, q);
-    let answer = d.answer;
-    let place = d.place;
-    let entry = d.entry;
-    Decided {
-        answer: refusals::offer_number(answer),
-        place,
-        entry,
-    }
 }
 
 // ---- a stream's place
@@ -119,13 +78,23 @@ pub extern "C" fn gelmush_offer(
     ensures { λ r. let t = now (table .entry) in let q = request stream kind period min max life in
         ⌜ (r ≡ offerAnswer t q) × (now (table .exit) ≡ offered t q) ⌝ }
 {
-    let d = decide_step(*table, stream, kind, period, min, max, life);
+    let q = Request {
+        stream,
+        kind,
+        period,
+        min,
+        max,
+        life,
+    };
+    let d = planner::decide(*table, q);
     let place = d.place;
     let entry = d.entry;
+    // A refused offer puts nothing in the table: place 32 stands for none.
     if place < 32 {
         table.entries[place] = entry;
     }
-    d.answer
+    let answer = d.answer;
+    refusals::offer_number(answer)
 }
 
 #[no_mangle]

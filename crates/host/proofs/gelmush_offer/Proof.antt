@@ -1,5 +1,6 @@
 -- `gelmush_offer` meets its contract: a walk of its MIR. The borrow is opened and the table is copied, for the decision by value; the
--- decision's entry is put at its place in the lent table, where the decision has one. Assumes nothing.
+-- decision's entry is put at its place in the lent table, where the decision has one. The number of the answer is asked for after it.
+-- Assumes nothing.
 use mathlib.Core.Path.{_≡_, refl}
 use Prim.Native.Nat.{ℕ, _<_, _^_}
 use mathlib.Core.List.{[], _∷_, List}
@@ -18,7 +19,7 @@ use types.Kit.{Given, ‵, raw, mean, _⊛_, ⋆, _$_, _∵_, !, qed, by, move, 
 use types.Kit.{fsplit, fsplit3, fjoin, fjoin3, feqI, suffices, frame, done}
 use types.Run.{look, init, stop, fld, from, load, of-opd, and-then, no-more, assigns, land, returns, enter}
 use types.Run.{alloc1, alloc0, params1, pass1, pass0, free1, free0}
-use types.Part.{whole, sub, look-in}
+use types.Part.{agg, whole, sub, look-in}
 use types.Mut.{open-ref, close-ref}
 use sound.WpLaws.{fmOf, WpFn-mono}
 use denote.RattleType.{RattleType, owns}
@@ -31,31 +32,41 @@ use denote.Ref.{RefT, MutRef, ptr-vals, mut-tells}
 use denote.Signature.{plain}
 use denote.Steps.{owned, heard, nothing}
 use denote.Struct.Laws as LL
+use denote.Enum.Laws as EL
 use denote.Triple.Entry.{onEntry}
 use denote.Triple.Spec.{Meets, tripleOf}
 use denote.Triple.Statement.{Contract, Triple}
 use denote.Triple.Clauses.{ensured, lasts}
 use denote.Triple.Table.{entered, cited}
 use denote.Triple.Walked.{says, Stays, stay-ref, stay-none, walkOf, goes-ref, goes-none, ends-at, walked, walk-meets}
+use Rattle.model.specs.Answers.{offerNumber}
 use Rattle.model.specs.declared.Request.{Request}
 use Rattle.model.specs.declared.Table.{Table}
 use Rattle.model.proofs.Entry as N
 use Rattle.model.proofs.Entry.Laws as N′
+use Rattle.model.proofs.OfferAnswer as R
+use Rattle.model.proofs.OfferAnswer.Laws as R′
+use Rattle.model.proofs.Request as Q
+use Rattle.model.proofs.Request.Laws as Q′
 use Rattle.model.proofs.Table as T
 use Rattle.model.proofs.Table.Laws as T′
 use Rattle.rules.specs.Calls.{offerAnswer, offered}
 use Rattle.rules.specs.WellFormed.{WellFormed}
 use Rattle.planner.specs.Numbers.{request}
-use Rattle.host.specs.declared.Decided.{Decided}
-use Rattle.host.proofs.Decided as D
-use Rattle.host.proofs.Decided.Laws as D′
+use Rattle.planner.specs.declared.Decision.{Decision}
+use Rattle.planner.proofs.Decision as D
+use Rattle.planner.proofs.Decision.Laws as D′
+use Rattle.planner.proofs.decide as decide
+use Rattle.planner.proofs.decide.Symbol as decide-def
+use Rattle.planner.proofs.decide.Symbol.{name as #planner·decide}
+use Rattle.planner.proofs.decide.Met as decide-thm
+use Rattle.refusals.proofs.offer_number.Symbol as number-def
+use Rattle.refusals.proofs.offer_number.Symbol.{name as #refusals·offer-number}
+use Rattle.refusals.proofs.offer_number.Met as number-thm
 use Rattle.host.proofs.Lent.{machine, IsTable, Lent, number, gone, table-copied, table-closes}
 use Rattle.host.proofs.Walk.{Gives, gives, calls-value}
 use Rattle.host.proofs.Entries.{with-entry, entry-put}
-use Rattle.host.proofs.decide_step as decide
-use Rattle.host.proofs.decide_step.Symbol as decide-def
-use Rattle.host.proofs.decide_step.Symbol.{name as #host·decide-step}
-use Rattle.host.proofs.decide_step.Met as decide-thm
+use Rattle.host.proofs.Answers.{Numbers, calls-number}
 use Rattle.host.proofs.gelmush_offer.Key.{name as #host·gelmush-offer}
 use Rattle.host.proofs.gelmush_offer as lent
 use Rattle.host.proofs.gelmush_offer.Statement as stated
@@ -90,15 +101,27 @@ record Fits (q : Request) : Type 0 where
   max : q .max < 2 ^ 32
   life : q .life < 2 ^ 32
 
+-- the request's machine value
+abbrev requestVal : Request → Val
+requestVal q = LL.val Q.the-type Q′.the-laws q
+
+is-request : (q : Request) → Fits q → Is Q.the-row q (requestVal q ∷ [])
+is-request q f =
+    LL.owes Q.the-type Q′.the-laws q
+    ((refl, f .stream), ((refl, f .kind), ((refl, f .period), ((refl, f .min), ((refl, f .max), ((refl, f .life), tt))))))
+
 abbrev stayed : Stays (lent.ended .signature .params) (lent.ended .kept)
 stayed =
     let n = stay-none (λ _. u32) yes in
     (stay-ref (0 ∷ []) tt (plain (λ _. T.the-row)), (n, (n, (n, (n, (n, (n, tt)))))))
 
 module _ {M : Type 1} (𝓤 : URA M) (H : Heap 𝓤) (A : Atoms 𝓤) (at-mem : Memory → SProp 𝓤) (run : Routine → Fun 𝓤) where
-  -- the contract that the proof cites
+  -- the contracts that the proof cites
   abbrev Decide : Contract 𝓤
   Decide = tripleOf 𝓤 H A decide.signature (decide.spec 𝓤 H A at-mem run)
+
+  abbrev Number : Contract 𝓤
+  Number = Numbers 𝓤 R.the-row offerNumber H A
 
   module _ (W : Given 𝓤 H A) (κ : Lft) (q : Share) (b o : ℕ) (γ : GName) (h : Table) (n : Request) (fits : Fits n) where
     abbrev x : RefT Table × Six ℕ
@@ -110,8 +133,8 @@ module _ {M : Type 1} (𝓤 : URA M) (H : Heap 𝓤) (A : Atoms 𝓤) (at-mem : 
     abbrev Post : Val → SProp 𝓤
     Post = walkOf 𝓤 H A lent.ended stayed (lent.clauses 𝓤 H A at-mem run) .post (((κ, tt), (q, tt), tt, x, at), tt)
 
-    abbrev Done : Decided → Type 0
-    Done d = (d .answer ≡ offerAnswer h n) × (with-entry h (d .place) (d .entry) ≡ offered h n)
+    abbrev Done : Decision → Type 0
+    Done d = (offerNumber (d .answer) ≡ offerAnswer h n) × (with-entry h (d .place) (d .entry) ≡ offered h n)
 
     -- what the numbers own is had for nothing
     had : ent 𝓤 (emp 𝓤) (sem 𝓤 H A (owns numbers (fields n) (spelled n)))
@@ -120,83 +143,89 @@ module _ {M : Type 1} (𝓤 : URA M) (H : Heap 𝓤) (A : Atoms 𝓤) (at-mem : 
         number ! (n .min) (fits .min) $ fjoin ! $ number ! (n .period) (fits .period) $ fjoin ! $
         number ! (n .kind) (fits .kind) $ fjoin ! $ number ! (n .stream) (fits .stream) $ fjoin ! $ done !
 
-    exits : (d : Decided) → Done d → d .answer < 2 ^ 32
-        → ent 𝓤 (⋆ 𝓤 H A (Lent 𝓤 κ q b o γ (with-entry h (d .place) (d .entry)))) (Post (vint w32 (d .answer)))
+    exits : (d : Decision) → Done d → offerNumber (d .answer) < 2 ^ 32
+        → ent 𝓤 (⋆ 𝓤 H A (Lent 𝓤 κ q b o γ (with-entry h (d .place) (d .entry)))) (Post (vint w32 (offerNumber (d .answer))))
     exits d e f =
         let t = with-entry h (d .place) (d .entry) in
+        let a = offerNumber (d .answer) in
         qed W (Lent 𝓤 κ q b o γ t) ∵
         suffices ! _ (ends-at 𝓤 H A lent.ended stayed (lent.clauses 𝓤 H A at-mem run) W (((κ, tt), (q, tt), tt, x, at), tt)
-        (vint w32 (d .answer)) (d .answer) (t, each (λ _. tt) n) (tt, each (λ _. tt) n)) $ says ! e $ nothing ! $
+        (vint w32 a) a (t, each (λ _. tt) n) (tt, each (λ _. tt) n)) $ says ! e $ nothing ! $
         move ! (3 ∷ 0 ∷ []) $ join ! $ frame ! $ feqI ! (List Val) (vptr b o ∷ []) (vptr b o ∷ []) refl $ fjoin3 ! $
         use0 W (‵ (owns numbers (fields n) (spelled n))) had $ move ! (1 ∷ 0 ∷ []) $ fjoin ! $
-        number ! (d .answer) f $ move ! (1 ∷ 0 ∷ []) $ done !
+        number ! a f $ move ! (1 ∷ 0 ∷ []) $ done !
 
     -- what the callee's triple binds outside, asks and gives
     abbrev to-decide : Decide .Ghost
-    to-decide = ((tt, tt, tt, (h, fields n), (machine h ∷ [], spelled n)), tt)
+    to-decide = ((tt, tt, tt, (h, (n, tt)), (machine h ∷ [], (requestVal n ∷ [], tt))), tt)
 
     asked : IsTable h → WellFormed h → ent 𝓤 (emp 𝓤) (Decide .pre to-decide)
     asked was formed =
-        qed W [] ∵ says ! formed $ use0 W (‵ (owns numbers (fields n) (spelled n))) had $
+        qed W [] ∵ says ! formed $ nothing ! $
+        owned ! Q.the-row (Is Q.the-row) ((LL.makes Q.the-type Q′.the-plain) 𝓤 H A) n (requestVal n ∷ []) (is-request n fits) $ fjoin ! $
         owned ! T.the-row (Is T.the-row) ((LL.makes T.the-type T′.the-plain) 𝓤 H A) h (machine h ∷ []) was $ fjoin ! $
         nothing ! $ join ! $ done !
 
     given : (w : Val) → ent 𝓤 (Decide .post to-decide w) (mean 𝓤 H A (Gives 𝓤 D.the-row Done w))
     given w =
-        gives 𝓤 H A W D.the-row Done w (ensured 𝓤 H A decide.ended (decide.clauses 𝓤 H A at-mem run) tt (h, fields n) tt)
-        (λ d. exE 𝓤 _ (λ ws. snd∗ 𝓤 (sem 𝓤 H A (lasts decide.ended tt (h, fields n) ws)) (fact 𝓤 (Done d))))
+        gives 𝓤 H A W D.the-row Done w (ensured 𝓤 H A decide.ended (decide.clauses 𝓤 H A at-mem run) tt (h, (n, tt)) tt)
+        (λ d. exE 𝓤 _ (λ ws. snd∗ 𝓤 (sem 𝓤 H A (lasts decide.ended tt (h, (n, tt)) ws)) (fact 𝓤 (Done d))))
 
     -- In the comments on contexts, _n is the cell of the n-th local, or room for it, and …n is what frees it.
-    walk : (𝓣 : Tables 𝓤 H) → Triple 𝓤 (𝓣 .C #host·decide-step) Decide
+    walk : (𝓣 : Tables 𝓤 H) → Triple 𝓤 (𝓣 .C #planner·decide) Decide → Triple 𝓤 (𝓣 .C #refusals·offer-number) Number
         → ent 𝓤 (sep 𝓤 (onEntry 𝓤 H A lent.signature (κ, tt) (q, tt) x at) (fact 𝓤 (WellFormed h)))
         (WpFn 𝓤 H (𝓣 .C) (𝓣 .Λ) code.function (vptr b o ∷ values n) Post)
-    walk 𝓣 known =
+    walk 𝓣 known numbered =
         qed W (((‵ (flft κ q) ⊛ ‵ ftrue) ⊛ ‵ (owns (MutRef (named 0) κ T.the-row ∷ numbers) x at)) ∷ raw (fact 𝓤 (WellFormed h)) ∷ []) ∵
         split ! $ split ! $ move ! (2 ∷ []) $ fsplit ! $ fsplit3 ! $ drop ! $ keep ! (5 ∷ 0 ∷ 1 ∷ 3 ∷ []) $ heard ! (WellFormed h) (λ formed.
         -- [obs; the loan; its token]
         enter ! (𝓣 .C) (𝓣 .Λ) code.function (vptr b o ∷ values n) _ $
         alloc1 ! (λ l₀. alloc1 ! (λ l₁. alloc1 ! (λ l₂. alloc1 ! (λ l₃. alloc1 ! (λ l₄. alloc1 ! (λ l₅. alloc1 ! (λ l₆. alloc1 ! (λ l₇.
         alloc1 ! (λ l₈. alloc1 ! (λ l₉. alloc1 ! (λ l₁₀. alloc1 ! (λ l₁₁. alloc1 ! (λ l₁₂. alloc1 ! (λ l₁₃. alloc1 ! (λ l₁₄. alloc1 ! (λ l₁₅.
-        alloc0 ! $ params1 ! $ pass1 ! (init ! 28 refl (tt, tt)) $
-        pass1 ! (init ! 26 refl (tt, record { fits = fits .stream })) $ pass1 ! (init ! 24 refl (tt, record { fits = fits .kind })) $
-        pass1 ! (init ! 22 refl (tt, record { fits = fits .period })) $ pass1 ! (init ! 20 refl (tt, record { fits = fits .min })) $
-        pass1 ! (init ! 18 refl (tt, record { fits = fits .max })) $ pass1 ! (init ! 16 refl (tt, record { fits = fits .life })) $ pass0 ! $
-        -- [_15; …15; _14; …14; and so on, down to _0; …0; obs; the loan; its token]
-        move ! (32 ∷ 33 ∷ 34 ∷ 8 ∷ 28 ∷ []) $ table-copied b o refl ! refl h (λ was.
-        -- [the table; what it owns; the open loan; obs; auth; _11; _1; _15; …15; _14; …14; _13; …13; _12; …12; …11; _10; …10; _9; …9; _8; …8;
-        --  _7; …7; _6; …6; _5; …5; _4; …4; _3; …3; _2; …2; …1; _0; …0]
+        alloc1 ! (λ l₁₆. alloc1 ! (λ l₁₇. alloc0 ! $ params1 ! $ pass1 ! (init ! 32 refl (tt, tt)) $
+        pass1 ! (init ! 30 refl (tt, record { fits = fits .stream })) $ pass1 ! (init ! 28 refl (tt, record { fits = fits .kind })) $
+        pass1 ! (init ! 26 refl (tt, record { fits = fits .period })) $ pass1 ! (init ! 24 refl (tt, record { fits = fits .min })) $
+        pass1 ! (init ! 22 refl (tt, record { fits = fits .max })) $ pass1 ! (init ! 20 refl (tt, record { fits = fits .life })) $ pass0 ! $
+        -- [_17; …17; _16; …16; and so on, down to _0; …0; obs; the loan; its token]
+        assigns ! (agg ! (and-then ! (load ! (from ! (stop !)) (look ! 30 refl)) (and-then ! (load ! (from ! (stop !)) (look ! 28 refl))
+        (and-then ! (load ! (from ! (stop !)) (look ! 26 refl)) (and-then ! (load ! (from ! (stop !)) (look ! 24 refl))
+        (and-then ! (load ! (from ! (stop !)) (look ! 22 refl)) (and-then ! (load ! (from ! (stop !)) (look ! 20 refl)) (no-more !))))))))
+        (from ! (stop !)) (init ! 18 refl (LL.lawful Q.the-type Q′.the-laws 𝓤 H A W .typed n _ (is-request n fits) .0)) $
+        move ! (36 ∷ 37 ∷ 38 ∷ 8 ∷ 32 ∷ []) $ table-copied b o refl ! refl h (λ was.
+        -- [the table; what it owns; the open loan; obs; auth; _13; _1; _17; …17; _16; …16; _15; …15; _14; …14; …13; _12; …12; _11; …11;
+        --  _10; …10; _9; …9; _8; …8; _7; …7; _6; …6; _5; …5; _4; …4; _3; …3; _2; …2; …1; _0; …0]
         move ! (1 ∷ []) $ drop ! $ table-closes b o ! tt h was $
-        -- [obs; the loan; its token; _11; _1; _15; …]
+        -- [obs; the loan; its token; _13; _1; _17; …]
         calls-value ! (fmOf 𝓤 H (W .laws) 𝓣) D.the-row (LL.val D.the-type D′.the-laws) (LL.tells D.the-type D′.the-laws) Done Decide known
         to-decide (asked was formed) given
-        (and-then ! (load ! (from ! (stop !)) (look ! 4 refl)) (and-then ! (load ! (from ! (stop !)) (look ! 31 refl))
-        (and-then ! (load ! (from ! (stop !)) (look ! 29 refl)) (and-then ! (load ! (from ! (stop !)) (look ! 27 refl))
-        (and-then ! (load ! (from ! (stop !)) (look ! 25 refl)) (and-then ! (load ! (from ! (stop !)) (look ! 23 refl))
-        (and-then ! (load ! (from ! (stop !)) (look ! 21 refl)) (no-more !)))))))) (λ d e is.
+        (and-then ! (load ! (from ! (stop !)) (look ! 4 refl)) (and-then ! (load ! (from ! (stop !)) (look ! 23 refl)) (no-more !))) (λ d e is.
         let fields-are = LL.owed D.the-type D′.the-laws d _ is in
-        land ! (from ! (stop !)) (init ! 18 refl (LL.lawful D.the-type D′.the-laws 𝓤 H A W .typed d _ is .0)) $
-        assigns ! (of-opd ! (load ! (from ! (fld ! refl (stop !))) (look-in ! 18 (sub ! 1 refl (whole !))))) (from ! (stop !))
-        (init ! 16 refl (tt, record { fits = fields-are .1 .0 .1 })) $
-        assigns ! (of-opd ! (load ! (from ! (fld ! refl (stop !))) (look-in ! 18 (sub ! 2 refl (whole !))))) (from ! (stop !))
-        (init ! 14 refl (LL.lawful N.the-type N′.the-laws 𝓤 H A W .typed (d .entry) _ (fields-are .1 .1 .0) .0)) $
+        land ! (from ! (stop !)) (init ! 20 refl (LL.lawful D.the-type D′.the-laws 𝓤 H A W .typed d _ is .0)) $
+        assigns ! (of-opd ! (load ! (from ! (fld ! refl (stop !))) (look-in ! 20 (sub ! 1 refl (whole !))))) (from ! (stop !))
+        (init ! 18 refl (tt, record { fits = fields-are .1 .0 .1 })) $
+        assigns ! (of-opd ! (load ! (from ! (fld ! refl (stop !))) (look-in ! 20 (sub ! 2 refl (whole !))))) (from ! (stop !))
+        (init ! 16 refl (LL.lawful N.the-type N′.the-laws 𝓤 H A W .typed (d .entry) _ (fields-are .1 .1 .0) .0)) $
         open-ref ! tt (mem T.the-row) {b = b} {o = o} $
-        -- [the table; the open loan; obs; auth; _11; _1; _15; …]
-        move ! (0 ∷ 5 ∷ 17 ∷ 10 ∷ 8 ∷ 6 ∷ 15 ∷ 12 ∷ []) $
+        -- [the table; the open loan; obs; auth; _13; _1; _17; …]
+        move ! (0 ∷ 5 ∷ 19 ∷ 10 ∷ 8 ∷ 6 ∷ 17 ∷ 12 ∷ []) $
         entry-put b o (d .place) ! refl refl refl refl refl refl refl h (formed .size) (d .entry) (fields-are .1 .1 .0) $
-        -- [the table; _1; _9; _13; _14; _15; _10; _12; the open loan; obs; auth; _11; …15; …14; …13; …12; …11; …10; …9; _8; …8; _7; …7; …]
-        assigns ! (of-opd ! (load ! (from ! (fld ! refl (stop !))) (look-in ! 19 (sub ! 0 refl (whole !))))) (from ! (stop !))
-        (init ! 34 refl (tt, record { fits = fields-are .0 .1 })) $
+        -- [the table; _1; _10; _15; _16; _17; _11; _14; the open loan; obs; auth; _13; …17; …16; …15; …14; …13; _12; …12; …11; …10; _9; …9; …]
         move ! (0 ∷ 8 ∷ 9 ∷ 10 ∷ []) $ close-ref ! tt (mem T.the-row) (with-entry h (d .place) (d .entry)) {b = b} {o = o} $
-        -- [obs; the loan; its token; _1; _9; _13; _14; _15; _10; _12; _11; …15; …14; …13; …12; …11; …10; …9; _8; …8; _7; …7; …]
-        returns ! (look ! 33 refl) $
-        move ! (33 ∷ 34 ∷ 3 ∷ 32 ∷ 30 ∷ 31 ∷ 28 ∷ 29 ∷ 26 ∷ 27 ∷ 24 ∷ 25 ∷ 22 ∷ 23 ∷ 20 ∷ 21 ∷ 18 ∷ 19 ∷ 4 ∷ 17 ∷ 8 ∷ 16 ∷ 10 ∷ 15
-        ∷ 9 ∷ 14 ∷ 5 ∷ 13 ∷ 6 ∷ 12 ∷ 7 ∷ 11 ∷ []) $
-        gone ! $ gone ! $ gone ! $ gone ! $ gone ! $ gone ! $ gone ! $ gone ! $ gone ! $ gone ! $ gone ! $ gone ! $
-        free1 ! $ free1 ! $ free1 ! $ free1 ! $ free0 ! $ by ! (exits d e (fields-are .0 .1)))))))))))))))))))))
+        -- [obs; the loan; its token; _1; _10; _15; _16; _17; _11; _14; _13; …17; …16; …15; …14; …13; _12; …12; …11; …10; _9; …9; _8; …8; …]
+        assigns ! (of-opd ! (load ! (from ! (fld ! refl (stop !))) (look-in ! 20 (sub ! 0 refl (whole !))))) (from ! (stop !))
+        (init ! 16 refl (EL.lawful R.the-type R′.the-laws 𝓤 H A W tt .typed (d .answer) _ (fields-are .0) .0)) $
+        calls-number R.the-row offerNumber ! (fmOf 𝓤 H (W .laws) 𝓣) (EL.makes R.the-type R′.the-plain 𝓤 H A) numbered
+        (d .answer) (EL.val R.the-type R′.the-laws (d .answer)) (fields-are .0)
+        (and-then ! (load ! (from ! (stop !)) (look ! 17 refl)) (no-more !)) (λ f.
+        land ! (from ! (stop !)) (init ! 37 refl (tt, record { fits = f })) $ returns ! (look ! 37 refl) $
+        move ! (37 ∷ 38 ∷ 3 ∷ 36 ∷ 34 ∷ 35 ∷ 32 ∷ 33 ∷ 30 ∷ 31 ∷ 28 ∷ 29 ∷ 26 ∷ 27 ∷ 24 ∷ 25 ∷ 22 ∷ 23 ∷ 20 ∷ 21 ∷ 4 ∷ 19 ∷ 8 ∷ 18 ∷ 16 ∷ 17
+        ∷ 10 ∷ 15 ∷ 9 ∷ 14 ∷ 5 ∷ 13 ∷ 6 ∷ 12 ∷ 7 ∷ 11 ∷ []) $
+        gone ! $ gone ! $ gone ! $ gone ! $ gone ! $ gone ! $ gone ! $ gone ! $ gone ! $ gone ! $ gone ! $ gone ! $ gone ! $ gone ! $
+        free1 ! $ free1 ! $ free1 ! $ free1 ! $ free0 ! $ by ! (exits d e f)))))))))))))))))))))))
 
-  lent-meets : Given 𝓤 H A → (𝓣 : Tables 𝓤 H) → Triple 𝓤 (𝓣 .C #host·decide-step) Decide
+  lent-meets : Given 𝓤 H A → (𝓣 : Tables 𝓤 H) → Triple 𝓤 (𝓣 .C #planner·decide) Decide → Triple 𝓤 (𝓣 .C #refusals·offer-number) Number
       → Meets 𝓤 H A lent.signature (WpFn 𝓤 H (𝓣 .C) (𝓣 .Λ) code.function) (lent.spec 𝓤 H A at-mem run)
-  lent-meets W 𝓣 known =
+  lent-meets W 𝓣 known numbered =
       let n = goes-none 𝓤 H A W 1 (λ _. u32) yes (λ κs x f. refl) in
       let v = uint-vals w32 in
       let t = uint-tells w32 in
@@ -218,7 +247,7 @@ module _ {M : Type 1} (𝓤 : URA M) (H : Heap 𝓤) (A : Atoms 𝓤) (at-mem : 
         max = f₃ .1 .1 .0 .1;
         life = f₃ .1 .1 .1 .0 .1;
       } in
-      walk W (κs .0) (qs .0) (a .0 .ptr .0) (a .0 .ptr .1) (a .0 .name) (a .0 .now) q f 𝓣 known))
+      walk W (κs .0) (qs .0) (a .0 .ptr .0) (a .0 .ptr .1) (a .0 .name) (a .0 .now) q f 𝓣 known numbered))
 
 pub gelmush-offer-spec : {M : Type 1} → stated.statement M
 unfolding code.routine tablesOf
@@ -226,5 +255,7 @@ gelmush-offer-spec 𝓤 H 𝓜 𝓖 𝓡 =
     entered 𝓤 H (tripleOf 𝓤 H (𝓖 .A) lent.signature (lent.spec 𝓤 H (𝓖 .A) (𝓜 .mem) (𝓡 .run)))
     (tables 𝓤 H 𝓜 𝓡 code.env .C) (tables 𝓤 H 𝓜 𝓡 code.env .Λ) #host·gelmush-offer code.function (code.unfolded 𝓤 H 𝓜 𝓡)
     (lent-meets 𝓤 H (𝓖 .A) (𝓜 .mem) (𝓡 .run) (givenOf 𝓤 H 𝓜 𝓖) (tablesOf 𝓤 H 𝓜 (tables 𝓤 H 𝓜 𝓡 code.env))
-    (cited 𝓤 H (Decide 𝓤 H (𝓖 .A) (𝓜 .mem) (𝓡 .run)) 𝓜 𝓡 code.env #host·decide-step decide-def.routine code.calls-host·decide-step
-    (decide-thm.met 𝓤 H 𝓜 𝓖 𝓡)))
+    (cited 𝓤 H (Decide 𝓤 H (𝓖 .A) (𝓜 .mem) (𝓡 .run)) 𝓜 𝓡 code.env #planner·decide decide-def.routine code.calls-planner·decide
+    (decide-thm.met 𝓤 H 𝓜 𝓖 𝓡))
+    (cited 𝓤 H (Number 𝓤 H (𝓖 .A) (𝓜 .mem) (𝓡 .run)) 𝓜 𝓡 code.env #refusals·offer-number number-def.routine
+    code.calls-refusals·offer-number (number-thm.met 𝓤 H 𝓜 𝓖 𝓡)))
