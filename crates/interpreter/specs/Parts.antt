@@ -103,13 +103,6 @@ module _ (cur : Shelf) (chunk : List ℕ) (taken : ℕ) {cut : Cut} (e : cut ≡
       let some = on (omega arith) in
       (omega arith, omega arith)
 
-  pub cut-all : taken ≤ length chunk → cut .ended ≡ false → taken + cut .taken ≡ length chunk
-  cut-all h z =
-      let all = row-open 0 (cur .reader) (leftOf chunk taken) (ap (λ (c : Cut). c .ended) (sym e) ∙ z) .0 in
-      let n = left-length chunk taken in
-      let q : cut .taken ≡ cutOf cur (leftOf chunk taken) .taken = ap (λ (c : Cut). c .taken) e in
-      omega arith
-
   module _ {s : Shelf} {plan out words bytes : List ℕ} {at next : ℕ} (d : Done s (take taken chunk) plan out at cur next words bytes) where
     done-cut : {after : Shelf} {words₂ bytes₂ : List ℕ} {end : ℕ}
         → Done cur (cutBytes cur (leftOf chunk taken)) words bytes next after end words₂ bytes₂

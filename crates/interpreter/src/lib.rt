@@ -84,53 +84,50 @@ pub fn serve_rows(s: Shelf, chunk: &[u8], plan: &mut [u32], out: &mut [u8], at: 
     let mut taken: usize = 0;
     let mut next = at;
     let last = out.len() - ANSWER_MOST;
-    while taken < chunk.len() {
-        if last < next {
-            return served_to(reader, ready, table, taken, next);
-        }
+    while taken < chunk.len() && next <= last {
         let c = rows::cut_row(reader, &chunk[taken..]);
         let r = c.reader;
+        reader = r;
         taken += c.taken;
-        if !c.ended {
-            return served_to(r, ready, table, taken, next);
-        }
-        reader = rows::at_start();
-        match command_in(r.line) {
-            Command::Open(units) => {
-                let o = answers::answer_open(units, out, next);
-                next = o.at;
-                if o.succeeded {
-                    ready = true;
-                    table = planner::opened_table(units);
+        if c.ended {
+            reader = rows::at_start();
+            match command_in(r.line) {
+                Command::Open(units) => {
+                    let o = answers::answer_open(units, out, next);
+                    next = o.at;
+                    if o.succeeded {
+                        ready = true;
+                        table = planner::opened_table(units);
+                    }
                 }
-            }
-            Command::Offer(q) => {
-                let p = answers::answer_offer(ready, table, q, out, next);
-                next = p.at;
-                let place = p.place;
-                if place < 32 {
-                    let e = p.entry;
-                    table.entries[place] = e;
+                Command::Offer(q) => {
+                    let p = answers::answer_offer(ready, table, q, out, next);
+                    next = p.at;
+                    let place = p.place;
+                    if place < 32 {
+                        let e = p.entry;
+                        table.entries[place] = e;
+                    }
                 }
-            }
-            Command::Withdraw(stream) => {
-                let p = answers::answer_withdraw(ready, table, stream, out, next);
-                next = p.at;
-                let place = p.place;
-                if place < 32 {
-                    let e = p.entry;
-                    table.entries[place] = e;
+                Command::Withdraw(stream) => {
+                    let p = answers::answer_withdraw(ready, table, stream, out, next);
+                    next = p.at;
+                    let place = p.place;
+                    if place < 32 {
+                        let e = p.entry;
+                        table.entries[place] = e;
+                    }
                 }
-            }
-            Command::Beacon => {
-                let b = answers::answer_beacon(ready, table, plan, out, next);
-                next = b.at;
-                if 0 < b.used {
-                    let shares = b.shares;
-                    table = advance::advance(table, b.used, shares);
+                Command::Beacon => {
+                    let b = answers::answer_beacon(ready, table, plan, out, next);
+                    next = b.at;
+                    if 0 < b.used {
+                        let shares = b.shares;
+                        table = advance::advance(table, b.used, shares);
+                    }
                 }
+                Command::OtherForm => next = printing::plain_row(out, next, b"row", 50),
             }
-            Command::OtherForm => next = printing::plain_row(out, next, b"row", 50),
         }
     }
     served_to(reader, ready, table, taken, next)

@@ -50,7 +50,8 @@ returns-2 c =
     let d = n .before .before in
     let s = d .before .before .before in
     let q = n .offer-number .ensures ∙ d .decide .ensures .0 in
-    rw (not-false (s .args .ready) (d .before .if1 .left), sym q) (ap withTable (d .decide .ensures .1), c .before .before .stream-row2 .ensures)
+    rw (not-false (s .args .ready) (d .before .if1 .left), sym q)
+    (ap withTable (d .decide .ensures .1), c .before .before .stream-row2 .ensures)
 
 pub answer-offer-spec : {M : Type 1} → statement M
 answer-offer-spec =

@@ -111,7 +111,8 @@ fits-ahead-requires c κs =
     let s = f .before .before .before .before .before in
     subst Tidy (sym (with-request o)) (request-tidy (s .args .t) (s .pre) (s .args .q) (answered f) (passed (o .before)))
 
-looked : (c : tie.After-fits-ahead) → (let a = c .before .before .before .before .before .before .before .before .before .before .before .args in
+looked : (c : tie.After-fits-ahead)
+    → (let a = c .before .before .before .before .before .before .before .before .before .before .before .args in
     c .fits-ahead .result ≡ fitsAhead (a .t .interval .0) (heldOf (withRequest (a .t) (a .q))))
 looked c = c .fits-ahead .ensures ∙ ap (λ t. fitsAhead (t .interval .0) (heldOf t)) (with-request (c .before .before .before))
 

@@ -23,7 +23,8 @@ returns : tie.Need-returns
 unfolding beacon
 returns c =
     let u = c .unplanned .ensures in
-    let q : ltb (length (now (c .before .before .before .args .plan))) (recordWords * mostRecords) ≡ true = lt-ltb _ _ (c .before .if1 .taken) in
+    let ws = now (c .before .before .before .args .plan) in
+    let q : ltb (length ws) (recordWords * mostRecords) ≡ true = lt-ltb _ _ (c .before .if1 .taken) in
     (rw q (ap beaconNumber (u .0)), (rw q (u .1 .0), (rw q, stays-put (u .1 .1) (rw q))))
 
 queue-of-requires : tie.Need-queue-of-requires
@@ -70,11 +71,12 @@ returns-3 c =
     let a = q .before .before .before .args in
     let e = j .write-jobs .ensures in
     let long = le-ltb _ _ (q .before .if1 .left) in
+    let words = e .1 ∙ ap (λ n. wordsOf (planOf (a .t)) ++ drop (4 * n) (now (a .plan))) (e .0) in
     let held = moves-on (s .before .if2 .left) (formed-tidy (q .before .before .before .pre), q .queue-of .ensures .used) in (
       rw long,
       (
         rw long (e .0),
-        (rw long (e .1 ∙ ap (λ n. wordsOf (planOf (a .t)) ++ drop (4 * n) (now (a .plan))) (e .0)), rw long (held (shared s, refl))),
+        (rw long words, rw long (held (shared s, refl))),
       ),
     )
 

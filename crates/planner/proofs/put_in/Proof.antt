@@ -15,7 +15,9 @@ returns : tie.Need-returns
 returns c = search needs
 
 returns-2 : tie.Need-returns-2
-returns-2 c = (let s = c .before in sym (put-past (s .args .t) (s .args .place) (s .args .e) (past (s .args .t) (s .good .0) (c .if1 .left))))
+returns-2 c =
+    let s = c .before in
+    sym (put-past (s .args .t) (s .args .place) (s .args .e) (past (s .args .t) (s .good .0) (c .if1 .left)))
 
 pub put-in-spec : {M : Type 1} → statement M
 put-in-spec = tie.close (tie.spec mul-e element-set-from-e returns returns-2)
