@@ -1,7 +1,7 @@
-use Rattle.share.proofs.Known.{past}
 use mathlib.Core.Path.{sym}
-use Rattle.planner.specs.Changes.{put-past}
 use borrow.Author.Needs.{needs}
+use Rattle.share.proofs.Known.{past}
+use Rattle.planner.specs.Changes.{put-past}
 use Rattle.planner.proofs.put_in.Statement.{statement}
 use Rattle.planner.proofs.put_in.Tie as tie
 
