@@ -13,7 +13,7 @@ ghost use Rattle.rules.specs.WellFormed.{WellFormed};
 ghost use Rattle.planner.specs.Changes.{putIn, Moves};
 ghost use Rattle.planner.specs.Numbers.{openNumber, heldNumber, beaconNumber, request, noneHeld, noTable};
 
-pub mod checks; // checks.rt: an offer's checks but for looking ahead, and the entry that it becomes
+mod checks; // checks.rt: an offer's checks but for looking ahead, and the entry that it becomes
 
 use model::Entry;
 use model::OfferAnswer;
