@@ -21,7 +21,7 @@ use Rattle.rules.specs.WellFormed.{Held}
 use Rattle.laws.specs.Held.{Piece, held-kinds, piece-of}
 use Rattle.laws.specs.Sources.{sourceOf, loadAt, fraction-source, piece-source}
 use Rattle.ahead.specs.Moved.{Together}
-use Rattle.ahead.specs.Fits.{loadsAt, Fits, loads-now}
+use Rattle.ahead.specs.Fits.{loadsAt, loads-now}
 use Rattle.ahead.specs.Exact.{fits-ahead}
 
 -- a over b, rounded up

@@ -1,7 +1,7 @@
 -- What the program does: the rows that it prints for each row that it reads, and the table between two rows. Document 01, "Reading,
 -- lending, printing", and refusals 50 and 51 of "Where each refusal is checked". Assumes nothing.
-use Prim.Native.Nat.{ℕ, _*_}
-use mathlib.Core.Bool.{Bool, true, false, cond}
+use Prim.Native.Nat.{ℕ}
+use mathlib.Core.Bool.{true, false, cond}
 use mathlib.Core.List.{List, [], _∷_, _++_, map}
 use lib.Dec.{eqb}
 use Rattle.lists.specs.Lists.{concatMap}

@@ -1,5 +1,5 @@
 -- The table that the program holds is well formed before and after each row. Assumes nothing.
-use mathlib.Core.Path.{_≡_, refl, sym, subst, ap, _∙_}
+use mathlib.Core.Path.{_≡_, refl, sym, subst, ap}
 use mathlib.Core.Logic.{⊎-elim}
 use mathlib.Core.Bool.{Bool, true, false, cond}
 use mathlib.Core.List.{List}
@@ -11,13 +11,13 @@ use Rattle.lists.specs.Lists.{within}
 use Rattle.lists.specs.Tests.{either, clash}
 use Rattle.model.specs.Requests.{refusal}
 use Rattle.model.specs.declared.Table.{Table}
-use Rattle.rules.specs.Calls.{openAnswer, opened, advanced, Beacon, beacon}
+use Rattle.rules.specs.Calls.{openAnswer, opened, advanced, Beacon}
 use Rattle.rules.specs.WellFormed.{WellFormed}
 use Rattle.ahead.specs.Formed.{opened-formed, offered-formed, withdrawn-formed, beacon-formed}
 use Rattle.commands.specs.declared.Command.{Command}
 use Rattle.commands.specs.declared.Command.the-variants.{Open, Offer, Withdraw, Beacon as Beacon-row, OtherForm}
 use Rattle.answers.specs.declared.State.{State}
-use Rattle.answers.specs.Meaning.{firstState, withTable, stateAfter}
+use Rattle.answers.specs.Meaning.{firstState, stateAfter}
 use Rattle.answers.specs.Room.{planWords, Ready}
 use Rattle.answers.specs.Beacons.{planned}
 

@@ -52,6 +52,7 @@ pub struct Put {
     pub entry: Entry,
 }
 
+// Where there is no table, none changes.
 fn nothing_put(at: usize) -> Put
     ensures { λ r. ⌜ r ≡ record { at = at; place = places; entry = freeEntry } ⌝ }
 {
@@ -117,6 +118,7 @@ pub struct Beaconing {
     pub shares: Shares,
 }
 
+// Where there is no table, there is none to move on.
 fn no_table(out: &mut [u8], at: usize) -> Beaconing
     requires { ⌜ at + answerMost ≤ length (now out) ⌝ }
     ensures { λ r. let bs = plainRow beaconVerb 51 in

@@ -1,6 +1,6 @@
 -- One interval: in step D's slots every stream has, in each of its periods, what its jobs need: min + extra for kind 1, the step B and C
 -- slots for a piece. Assumes nothing.
-use mathlib.Core.Path.{_≡_, refl, sym, ap, _∙_}
+use mathlib.Core.Path.{_≡_, sym, ap, _∙_}
 use mathlib.Core.Logic.{_⊎_, inl, inr}
 use mathlib.Core.Bool.{Bool, false, cond}
 use mathlib.Core.List.{List}
@@ -11,7 +11,6 @@ use native.Mathlib.Decide.{decLe}
 use native.Mathlib.Omega.{arith}
 use lib.Dec.{eqb}
 use lib.ListN.{getD}
-use borrow.Author.Tests.{eq-eqb}
 use Rattle.lists.specs.Lists.{sumOf, span}
 use Rattle.lists.specs.Tests.{eqb-refl}
 use Rattle.lists.specs.All.{All, all-map, all-zip, all-both}

@@ -14,7 +14,7 @@ ghost use Rattle.refusals.specs.Numbers.{openNumber, heldNumber, beaconNumber};
 ghost use Rattle.planner.specs.Changes.{putIn, Moves};
 ghost use Rattle.planner.specs.Numbers.{request, noneHeld, noTable};
 
-pub mod checks; // checks.rt: an offer's checks but for looking ahead, and the entry that it becomes
+mod checks; // checks.rt: an offer's checks but for looking ahead, and the entry that it becomes
 
 use model::Entry;
 use model::OfferAnswer;

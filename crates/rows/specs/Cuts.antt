@@ -1,6 +1,6 @@
 -- A cut of a chunk, against the rows that a reader finds: the bytes of a cut that ends a row hold that row alone, and the next one
 -- begins after them; a cut that ends none has taken the whole chunk. Assumes nothing.
-use mathlib.Core.Path.{_≡_, refl, sym, ap, _∙_}
+use mathlib.Core.Path.{_≡_, refl, _∙_}
 use mathlib.Core.Logic.{⊎-elim}
 use mathlib.Core.Bool.{true, false}
 use mathlib.Core.List.{List, [], _∷_}

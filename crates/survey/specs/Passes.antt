@@ -14,7 +14,7 @@ use Rattle.lists.specs.Tests.{clash}
 use Rattle.lists.specs.All.{All, all-map}
 use Rattle.lists.specs.Loops.{any-more, summed-more}
 use Rattle.lists.specs.First.{firstOf, first-more}
-use Rattle.model.specs.Entries.{freeEntry, isHeld, isStream}
+use Rattle.model.specs.Entries.{freeEntry, isStream}
 use Rattle.model.specs.declared.Entry.{Entry}
 use Rattle.model.specs.declared.Table.{Table}
 use Rattle.rules.specs.Calls.{holds}

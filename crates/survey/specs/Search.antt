@@ -9,7 +9,7 @@ use native.Mathlib.Nat.{not-suc-le-zero, le-of-suc-le-suc}
 use native.Mathlib.Omega.{arith}
 use lib.Dec.{ltb, leb, eqb}
 use lib.ListN.{length, getD, set}
-use borrow.Author.Tests.{ltb-false, eqb-true, eq-eqb, ne-eqb, leb-true, le-leb}
+use borrow.Author.Tests.{ltb-false, eqb-true, ne-eqb, leb-true, le-leb}
 use Rattle.lists.specs.Lists.{one-if, cons-if, keep, sumOf, anyOf}
 use Rattle.lists.specs.Tests.{clash, same-test, and-false}
 use Rattle.lists.specs.All.{all-of, map-ext}

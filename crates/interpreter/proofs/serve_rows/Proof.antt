@@ -324,7 +324,8 @@ same-length-2 : tie.Need-same-length-2 Inv-loop μ-loop
 same-length-2 c = c .before .before .loop .inv .1 .1 .1 .1 .1
 
 -- the chunk is used up, or an answer might not fit
-far : (c : tie.Left-loop Inv-loop μ-loop) → (let l = c .before .loop in let a = c .before .before .before .before .before .before .before .before .args in
+far : (c : tie.Left-loop Inv-loop μ-loop)
+    → (let l = c .before .loop in let a = c .before .before .before .before .before .before .before .before .args in
     l .next + answerMost ≤ length (now (a .out)) → l .taken ≡ length (now (a .chunk)))
 far c h =
     let l = c .before .loop in

@@ -2,7 +2,6 @@ use mathlib.Core.Path.{_≡_}
 use mathlib.Core.Bool.{true}
 use lib.Dec.{ltb}
 use borrow.Author.Tests.{lt-ltb, le-ltb}
-use borrow.Author.Needs.{needs}
 use Rattle.share.proofs.owed_if_lower.Statement.{statement}
 use Rattle.share.proofs.owed_if_lower.Tie as tie
 

@@ -1,5 +1,5 @@
 -- The records passed start before the slot. Assumes nothing.
-use Prim.Native.Nat.{_≤_, _-_}
+use Prim.Native.Nat.{_-_}
 use native.Mathlib.Omega.{arith}
 use Rattle.window.specs.Laws.{Passed, before-found, before-passed, before-ended}
 use Rattle.window.proofs.first_from.Statement.{statement}

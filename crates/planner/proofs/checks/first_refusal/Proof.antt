@@ -1,10 +1,10 @@
 use mathlib.Core.Path.{_≡_, sym, ap, _∙_}
-use mathlib.Core.Bool.{true, cond}
+use mathlib.Core.Bool.{cond}
 use Prim.Native.Nat.{ℕ}
 use lib.Dec.{leb, eqb}
 use borrow.Author.Tests.{le-leb, lt-leb, not-true, not-false}
 use borrow.Author.Needs.{needs}
-use Rattle.model.specs.Requests.{refusal, streamInRange}
+use Rattle.model.specs.Requests.{refusal}
 use Rattle.rules.specs.Calls.{places}
 use Rattle.laws.specs.Offers.{offerChecksBut}
 use Rattle.planner.specs.Offer.{but-last}
