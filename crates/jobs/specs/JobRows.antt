@@ -7,7 +7,7 @@ use native.Mathlib.Omega.{arith}
 use lib.ListN.{length, drop, replicate, length-append}
 use lib.Seq.{take-append-seam}
 use Rattle.lists.specs.Lists.{sumOf, concatMap}
-use Rattle.lists.specs.All.{All, stop, and, all-map, all-of-map}
+use Rattle.lists.specs.All.{All, stop, and, all-map, all-of-map, all-keep}
 use Rattle.lists.specs.Sums.{sum-keep-le}
 use Rattle.model.specs.Entries.{freeEntry, isHeld}
 use Rattle.model.specs.declared.Entry.{Entry}
@@ -20,7 +20,7 @@ use Rattle.laws.specs.Closed.{slots-most}
 use Rattle.ahead.specs.Tables.{tidy-together}
 use Rattle.interval.specs.Jobs.{tie-sum, all-tie, jobs-keys}
 use Rattle.laws.specs.Ranks.{rank}
-use Rattle.share.specs.Queues.{Used}
+use Rattle.share.specs.Queues.{Used, jobs-few}
 use Rattle.share.specs.Shares.{sharingOf, grantOf, grants-right}
 use Rattle.share.specs.declared.Sharing.{Sharing}
 use Rattle.order.specs.Filled.{filled, filled-behind, filled-all}
@@ -28,11 +28,13 @@ use Rattle.order.specs.Listed.{listed, orderOf}
 use Rattle.order.specs.TiePlaces.{listed-ties, listed-places, listed-length}
 use Rattle.order.specs.declared.Order.{Order}
 use Rattle.plan.specs.Rows.{rowFrom, rowJobs, rowPlan, Rows, Spare}
+use Rattle.plan.specs.Needs.{needsRow, needRows, Counted, needs-map}
 use Rattle.plan.specs.RowLaws.{row-skipped, plan-skipped}
 use Rattle.plan.specs.Skipped.{Skipped, over, skipped-append, skipped-names}
-use Rattle.jobs.specs.Needs.{needBy, needsRow, rowBy}
+use Rattle.jobs.specs.Needs.{needBy, rowBy}
 use Rattle.jobs.specs.Limits.{free-none, length-free, length-held}
-use Rattle.jobs.specs.Listing.{Listed, entryAt, rowsIn, rows-spare}
+use Rattle.jobs.specs.Listing.{Listed, entryAt, rowsIn, rows-size, rows-spare}
+use Rattle.jobs.specs.Making.{Made, streamOf, lengthIn, needIn}
 
 module _ (B : ℕ) (s : Sharing) (ps : List Entry) where
   abbrev rowsOf : List Entry → List Job
@@ -107,6 +109,10 @@ module _ (t : Table) (w : Tidy t) where
   unfolding planOf stepE stepD
   rows-plan = plan-skipped B _ _ _ table-skipped
 
+  -- a row has room for the jobs
+  counts-few : All (λ e. jobCount e ≤ 16) os
+  counts-few = filled-all _ (omega arith) (all-tie (tidy-held w) (all-keep isHeld (λ e q l. l) (jobs-few t w)))
+
 -- ---- rows that a program has made
 module _ (t : Table) (w : Tidy t) {n : ℕ} (u : Used n t) {o : Order} (e : o ≡ orderOf (map rank (t .entries)) n) where
   abbrev ps : List ℕ
@@ -131,18 +137,34 @@ module _ (t : Table) (w : Tidy t) {n : ℕ} (u : Used n t) {o : Order} (e : o �
       ∙ ap (λ l. filled (map (entryAt t) l)) (take-append-seam ps (replicate (32 - length ps) 0))
       ∙ ap filled (listed-ties t w n (u .0) (u .1))
 
-  module _ {ss Ts : List ℕ} {nss : List (List ℕ)} (a : ss ≡ map (λ (f : Entry). f .stream) (rowsIn t o))
-      (b : Ts ≡ map (jobLength (t .interval .0)) (rowsIn t o)) (d : nss ≡ map (rowBy (sharingOf t) (t .entries)) (rowsIn t o)) where
-    pub plan-made : Rows (t .interval .0) ss Ts nss × (rowPlan (t .interval .0) ss Ts nss ≡ planOf t)
-    plan-made = rw (a, b, d, rows-tied) (rows-fit t w, rows-plan t w)
+  module _ {ss Ts cs ns : List ℕ} (m : Made t o ss Ts cs ns) where
+    -- the needs that the plan makes are the rows of the entries
+    needs-made : needRows cs ns ≡ map (rowBy (sharingOf t) (t .entries)) (rowsIn t o)
+    needs-made = rw (m .counts, m .needs) (needs-map jobCount (needIn t) (rowsIn t o))
 
-    pub spare-made : (o .count ≤ 32) × Spare (t .interval .0) (o .count) Ts nss
+    pub plan-made : Rows (t .interval .0) ss Ts (needRows cs ns) × (rowPlan (t .interval .0) ss Ts (needRows cs ns) ≡ planOf t)
+    plan-made = rw (m .streams, m .lengths, needs-made, rows-tied) (rows-fit t w, rows-plan t w)
+
+    pub spare-made : (o .count ≤ 32) × Spare (t .interval .0) (o .count) Ts (needRows cs ns)
     spare-made = (
       order-listed .few,
-      rw (b, d)
+      rw (m .lengths, needs-made)
           (record {
             lengths = rows-spare t o order-listed (jobLength (t .interval .0));
             needs = subst (λ r. All (λ ns. ns ≡ r) (drop (o .count) (map (rowBy (sharingOf t) (t .entries)) (rowsIn t o))))
                 (ap (needsRow 1) (free-none t w)) (rows-spare t o order-listed (rowBy (sharingOf t) (t .entries)));
           }),
+    )
+
+    pub sized-made : (length ss ≡ 32) × ((length Ts ≡ 32) × Counted cs ns)
+    sized-made = (
+      ap length (m .streams) ∙ rows-size t o order-listed streamOf,
+      (
+        ap length (m .lengths) ∙ rows-size t o order-listed (lengthIn t),
+        record {
+          counts-sized = ap length (m .counts) ∙ rows-size t o order-listed jobCount;
+          each-sized = ap length (m .needs) ∙ rows-size t o order-listed (needIn t);
+          few = rw (m .counts, rows-tied) (all-of-map jobCount (counts-few t w));
+        },
+      ),
     )

@@ -71,7 +71,7 @@ module _ (t : Table) (o : Order) (w : Listed o) where
 
   -- ---- a loop that fills an array by the rows
   module _ {B : Type 0} (f : Entry → B) where
-    rows-size : length (map f (rowsIn t o)) ≡ 32
+    pub rows-size : length (map f (rowsIn t o)) ≡ 32
     rows-size = length-map (rowsIn t o) f ∙ row-length
 
     pub rows-more : {v : B} {ys : List B} (k : ℕ) → k < o .count → ys ≡ begun (f freeEntry) 32 k (map f (rowsIn t o))

@@ -1,5 +1,5 @@
-// The jobs of an interval as rows, one row of at most sixteen needs for each held entry in the tie order, and the plan of a table written
-// from them. Document 01, "One beacon", steps D and E.
+// The jobs of an interval as rows, one row for each held entry in the tie order: at most sixteen jobs of one need. The plan of a table is
+// written from them. Document 01, "One beacon", steps D and E.
 ghost use mathlib.Core.List.{_++_};
 ghost use mathlib.Core.Path.{_≡_};
 ghost use Prim.Native.Nat.{_+_, _*_, _≤_};
@@ -8,7 +8,7 @@ ghost use Rattle.rules.specs.Calls.{wordsOf, planOf};
 ghost use Rattle.laws.specs.Places.{Tidy};
 ghost use Rattle.share.specs.Queues.{Queued};
 ghost use Rattle.share.specs.Shares.{sharesOf};
-ghost use Rattle.jobs.specs.Needs.{needBy, needsRow};
+ghost use Rattle.jobs.specs.Needs.{needBy};
 use model::Entry;
 use model::Slots;
 use model::Table;
@@ -29,21 +29,8 @@ fn need_of(e: Entry, g: Granted) -> u32
     g.piece.0 + g.extra.0
 }
 
-// So many jobs of one need, and nothing behind them.
-fn row_of(count: u32, need: u32) -> [u32; 16]
-    requires { ⌜ count ≤ 16 ⌝ }
-    ensures { λ r. ⌜ r ≡ needsRow count need ⌝ }
-{
-    let mut row = [0u32; 16];
-    let n = count as usize;
-    for j in 0..n {
-        row[j] = need;
-    }
-    row
-}
-
 // The plan of the table's interval in the first words; every later word stays. The loop makes a row for each place of the order; the rows
-// behind are those of free places.
+// behind are those of free places, of one job that needs nothing.
 pub fn write_jobs(t: Table, q: Queue, s: Shares, plan: &mut [u32]) -> usize
     requires { ⌜ Tidy t × Queued t q ⌝ }
     requires { ⌜ s ≡ sharesOf t ⌝ }
@@ -56,7 +43,8 @@ pub fn write_jobs(t: Table, q: Queue, s: Shares, plan: &mut [u32]) -> usize
     let count = o.count;
     let mut streams = [0u32; 32];
     let mut lengths = [interval.0; 32];
-    let mut needs = [[0u32; 16]; 32];
+    let mut counts = [1u32; 32];
+    let mut each = [0u32; 32];
     for k in 0..count {
         let i = o.places[k];
         let e = t.entries[i];
@@ -66,10 +54,10 @@ pub fn write_jobs(t: Table, q: Queue, s: Shares, plan: &mut [u32]) -> usize
             extra: Slots(s.extras[i]),
         };
         let need = need_of(e, g);
-        let row = row_of(amounts::job_count(e), need);
         streams[k] = e.stream;
         lengths[k] = length.0;
-        needs[k] = row;
+        counts[k] = amounts::job_count(e);
+        each[k] = need;
     }
-    plan::write_plan(interval.0, count, streams, lengths, needs, plan)
+    plan::write_plan(interval.0, count, &streams, &lengths, &counts, &each, plan)
 }

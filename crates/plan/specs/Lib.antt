@@ -1,6 +1,7 @@
 pub mod Rows
 pub mod Skipped
 pub mod RowLaws
+pub mod Needs
 pub mod Heads
 pub mod Places
 pub mod Kept

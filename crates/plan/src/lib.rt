@@ -5,11 +5,12 @@
 ghost use mathlib.Core.Path.{_≡_};
 ghost use mathlib.Core.List.{[], _∷_, _++_, map};
 ghost use Prim.Native.Nat.{_+_, _*_, _≤_, _<_, min};
-ghost use lib.ListN.{length, drop, replicate};
+ghost use lib.ListN.{length, drop, getD, set, replicate};
 ghost use Rattle.lists.specs.All.{All};
 ghost use Rattle.rules.specs.Slots.{run};
 ghost use Rattle.rules.specs.Calls.{wordsOf};
 ghost use Rattle.plan.specs.Rows.{Length, Rows, Padded, Spare, rowPlan};
+ghost use Rattle.plan.specs.Needs.{Counted, needsRow, needRows};
 ghost use Rattle.plan.specs.Heads.{firstLeft};
 ghost use Rattle.plan.specs.Next.{nextOf};
 ghost use Rattle.plan.specs.Places.{Short, never, releaseOf, releasesOf, chosenAt};
@@ -58,6 +59,29 @@ fn next_after(b: u32, rows: usize, lengths: &[u32; 32], t: u32, next: u32) -> u3
         return next;
     }
     next_release(b, rows, lengths, t)
+}
+
+// So many jobs of one need in row k, where nothing was needed; nothing behind them.
+fn fill_row(needs: &mut [[u32; 16]; 32], k: usize, count: u32, need: u32)
+    requires { ⌜ (k < 32) × ((length (now needs) ≡ 32) × (count ≤ 16)) ⌝ }
+    requires { ⌜ getD (now needs) k [] ≡ replicate 16 0 ⌝ }
+    ensures { λ _. ⌜ now (needs .exit) ≡ set (now (needs .entry)) k (needsRow count need) ⌝ }
+{
+    let n = count as usize;
+    for j in 0..n {
+        needs[k][j] = need;
+    }
+}
+
+// The same in each row; those behind the first rows need nothing.
+fn fill_rows(needs: &mut [[u32; 16]; 32], rows: usize, counts: &[u32; 32], each: &[u32; 32])
+    requires { ⌜ (now needs ≡ replicate 32 (replicate 16 0)) × Counted (now counts) (now each) ⌝ }
+    requires { ⌜ Padded rows (replicate 16 0) (needRows (now counts) (now each)) ⌝ }
+    ensures { λ _. ⌜ now (needs .exit) ≡ needRows (now (counts .entry)) (now (each .entry)) ⌝ }
+{
+    for i in 0..rows {
+        fill_row(needs, i, counts[i], each[i]);
+    }
 }
 
 // The number of a row's first unfinished job; 16 where there is none.
@@ -205,30 +229,35 @@ fn blank_pen() -> Pen
     }
 }
 
-// The records of the plan in the first words, and how many there are. Every later word stays as it was. Only the first rows have jobs, so
-// that the work grows with them.
+// The records of the plan in the first words, and how many there are, where row i has counts[i] jobs that need each[i] slots. Every later
+// word stays as it was. Only the first rows have jobs, so that the work grows with them. What the jobs still need is made here, where it is
+// used up, so that no array of it is copied.
 pub fn write_plan(
     b: u32,
     rows: usize,
-    streams: [u32; 32],
-    lengths: [u32; 32],
-    needs: [[u32; 16]; 32],
+    streams: &[u32; 32],
+    lengths: &[u32; 32],
+    counts: &[u32; 32],
+    each: &[u32; 32],
     plan: &mut [u32],
 ) -> usize
-    requires { ⌜ Rows b streams lengths needs × (4096 ≤ length (now plan)) ⌝ }
-    requires { ⌜ (rows ≤ 32) × Spare b rows lengths needs ⌝ }
-    ensures { λ r. ⌜ (r ≡ length (rowPlan b streams lengths needs)) × ((r ≤ 1024)
-        × (now (plan .exit) ≡ wordsOf (rowPlan b streams lengths needs) ++ drop (4 * r) (now (plan .entry)))) ⌝ }
+    requires { ⌜ Rows b (now streams) (now lengths) (needRows (now counts) (now each)) × (4096 ≤ length (now plan)) ⌝ }
+    requires { ⌜ (rows ≤ 32) × Spare b rows (now lengths) (needRows (now counts) (now each)) ⌝ }
+    requires { ⌜ (length (now streams) ≡ 32) × ((length (now lengths) ≡ 32) × Counted (now counts) (now each)) ⌝ }
+    ensures { λ r. let needs = needRows (now (counts .entry)) (now (each .entry)) in
+        let runs = rowPlan b (now (streams .entry)) (now (lengths .entry)) needs in
+        ⌜ (r ≡ length runs) × ((r ≤ 1024) × (now (plan .exit) ≡ wordsOf runs ++ drop (4 * r) (now (plan .entry)))) ⌝ }
 {
-    let mut left = needs;
+    let mut left = [[0u32; 16]; 32];
+    fill_rows(&mut left, rows, counts, each);
     let mut heads = first_jobs(rows, &left);
-    let mut releases = first_releases(rows, &lengths, &heads);
+    let mut releases = first_releases(rows, lengths, &heads);
     let mut pen = blank_pen();
     let mut t: u32 = 0;
     let mut next: u32 = 0;
     while t < b {
-        next = next_after(b, rows, &lengths, t, next);
-        let i = choose_place(t, rows, &lengths, &releases);
+        next = next_after(b, rows, lengths, t, next);
+        let i = choose_place(t, rows, lengths, &releases);
         if i < 32 {
             let j = heads[i];
             let need = left[i][j];

@@ -9,27 +9,27 @@ use Rattle.model.specs.Entries.{freeEntry}
 use Rattle.model.specs.declared.Entry.{Entry}
 use Rattle.rules.specs.Calls.{wordsOf, planOf}
 use Rattle.laws.specs.Ranks.{rank, rankMost}
-use Rattle.rules.specs.Share.{jobCount}
-use Rattle.share.specs.Queues.{jobs-few}
 use Rattle.share.specs.Shares.{granted, sharingOf, grantOf, piece-found, extra-found}
 use Rattle.amounts.proofs.Known.{inside}
 use Rattle.order.specs.Listed.{orderOf}
 use Rattle.order.specs.TiePlaces.{ranks-most}
-use Rattle.plan.specs.Rows.{Rows, Spare, rowPlan}
-use Rattle.jobs.specs.Needs.{needBy, needsRow, Narrow}
+use Rattle.plan.specs.Rows.{Rows, rowPlan}
+use Rattle.plan.specs.Needs.{needRows}
+use Rattle.jobs.specs.Needs.{needBy, Narrow}
 use Rattle.jobs.specs.Limits.{narrow-places}
 use Rattle.jobs.specs.Listing.{Listed, entryAt, place-inside}
-use Rattle.jobs.specs.Making.{Making, making-starts, making-more, making-ends}
-use Rattle.jobs.specs.JobRows.{order-listed, plan-made, spare-made}
+use Rattle.jobs.specs.Making.{Making, Made, making-starts, making-more, making-ends}
+use Rattle.jobs.specs.JobRows.{order-listed, plan-made, spare-made, sized-made}
 use borrow.Author.Needs.{needs}
 use Rattle.jobs.proofs.write_jobs.Statement.{statement}
 use Rattle.jobs.proofs.write_jobs.Tie as tie
 
 abbrev Inv-loop : tie.InvT-loop
-Inv-loop plan t s o interval count streams₀ lengths₀ needs₀ k₀ streams lengths needs k = Making t o streams lengths needs k
+Inv-loop plan t s o interval count streams₀ lengths₀ counts₀ each₀ k₀ streams lengths counts each k =
+    Making t o streams lengths counts each k
 
 abbrev μ-loop : tie.MeasureT-loop
-μ-loop plan t s o interval count streams₀ lengths₀ needs₀ k₀ streams lengths needs k = count - k
+μ-loop plan t s o interval count streams₀ lengths₀ counts₀ each₀ k₀ streams lengths counts each k = count - k
 
 ordered-requires : tie.Need-ordered-requires Inv-loop μ-loop
 ordered-requires c κs =
@@ -80,19 +80,19 @@ element-copy-out-e c = search (needs, listed-inside c)
 job-length-requires : tie.Need-job-length-requires Inv-loop μ-loop
 job-length-requires c κs = search needs
 
-mul-row-of : tie.Need-mul-row-of Inv-loop μ-loop
-mul-row-of c = search (needs, listed-inside (c .before .before))
+mul-counts : tie.Need-mul-counts Inv-loop μ-loop
+mul-counts c = search (needs, listed-inside (c .before .before))
 
-element-copy-out-row-of : tie.Need-element-copy-out-row-of Inv-loop μ-loop
-element-copy-out-row-of c = search (needs, listed-inside (c .before .before))
+element-copy-out-counts : tie.Need-element-copy-out-counts Inv-loop μ-loop
+element-copy-out-counts c = search (needs, listed-inside (c .before .before))
 
-mul-t24 : tie.Need-mul-t24 Inv-loop μ-loop
-mul-t24 c = search (needs, listed-inside (c .before .before .before))
+mul-t23 : tie.Need-mul-t23 Inv-loop μ-loop
+mul-t23 c = search (needs, listed-inside (c .before .before .before))
 
-element-copy-out-t37 : tie.Need-element-copy-out-t37 Inv-loop μ-loop
-element-copy-out-t37 c = search (needs, listed-inside (c .before .before .before))
+element-copy-out-t36 : tie.Need-element-copy-out-t36 Inv-loop μ-loop
+element-copy-out-t36 c = search (needs, listed-inside (c .before .before .before))
 
--- the entry of the row, what it gets, and that its jobs have room
+-- the entry of the row, what it gets, and that its needs have 32 bits
 abbrev own : tie.After-e Inv-loop μ-loop → Entry
 own c =
     let l = c .before .before .before in
@@ -120,37 +120,35 @@ module _ (c : tie.After-e Inv-loop μ-loop) where
       let t = start .args .t1 in
       all-at (Narrow (sharingOf t) (t .entries)) (t .entries) freeEntry (narrow-places t (start .pre .0 .0)) at reads
 
-  few : jobCount (own c) ≤ 16
-  few =
-      let t = start .args .t1 in
-      all-at (λ e. jobCount e ≤ 16) (t .entries) freeEntry (jobs-few t (start .pre .0 .0)) at reads
-
 need-of-requires : tie.Need-need-of-requires Inv-loop μ-loop
 need-of-requires c κs = (let e = c .before .before .before in rw (pieced e, extended e) (narrow e))
+
+mul-streams : tie.Need-mul-streams Inv-loop μ-loop
+mul-streams c = search (needs, row-inside (c .before .before .before .before .before .before))
+
+array-write-streams : tie.Need-array-write-streams Inv-loop μ-loop
+array-write-streams c = search (needs, row-inside (c .before .before .before .before .before .before))
+
+mul-lengths : tie.Need-mul-lengths Inv-loop μ-loop
+mul-lengths c = search (needs, row-inside (c .before .before .before .before .before .before))
+
+array-write-lengths : tie.Need-array-write-lengths Inv-loop μ-loop
+array-write-lengths c = search (needs, row-inside (c .before .before .before .before .before .before))
 
 job-count-requires : tie.Need-job-count-requires Inv-loop μ-loop
 job-count-requires c κs = search needs
 
-row-of-requires : tie.Need-row-of-requires Inv-loop μ-loop
-row-of-requires c κs = rw (c .job-count .ensures) (few (c .before .before .before .before .before))
+mul-counts-2 : tie.Need-mul-counts-2 Inv-loop μ-loop
+mul-counts-2 c = search (needs, row-inside (c .before .before .before .before .before .before .before))
 
-mul-streams : tie.Need-mul-streams Inv-loop μ-loop
-mul-streams c = search (needs, row-inside (c .before .before .before .before .before .before .before .before))
+array-write-counts : tie.Need-array-write-counts Inv-loop μ-loop
+array-write-counts c = search (needs, row-inside (c .before .before .before .before .before .before .before))
 
-array-write-streams : tie.Need-array-write-streams Inv-loop μ-loop
-array-write-streams c = search (needs, row-inside (c .before .before .before .before .before .before .before .before))
+mul-each : tie.Need-mul-each Inv-loop μ-loop
+mul-each c = search (needs, row-inside (c .before .before .before .before .before .before .before))
 
-mul-lengths : tie.Need-mul-lengths Inv-loop μ-loop
-mul-lengths c = search (needs, row-inside (c .before .before .before .before .before .before .before .before))
-
-array-write-lengths : tie.Need-array-write-lengths Inv-loop μ-loop
-array-write-lengths c = search (needs, row-inside (c .before .before .before .before .before .before .before .before))
-
-mul-needs : tie.Need-mul-needs Inv-loop μ-loop
-mul-needs c = search (needs, row-inside (c .before .before .before .before .before .before .before .before))
-
-array-set-from-needs : tie.Need-array-set-from-needs Inv-loop μ-loop
-array-set-from-needs c = search (needs, row-inside (c .before .before .before .before .before .before .before .before))
+array-write-each : tie.Need-array-write-each Inv-loop μ-loop
+array-write-each c = search (needs, row-inside (c .before .before .before .before .before .before .before))
 
 add-k : tie.Need-add-k Inv-loop μ-loop
 add-k c = search needs
@@ -160,32 +158,40 @@ loop-less c = search needs
 
 loop-again : tie.Need-loop-again Inv-loop μ-loop
 loop-again c =
-    let j = c .before .before .before .before .before in
+    let j = c .before .before .before .before in
     let e = j .before in
     let l = e .before .before .before in
     let o = l .before .before in
-    let need = c .before .before .need-of .ensures ∙ ap₂ (λ a b. needBy (granted a b) (own e)) (pieced e) (extended e) in
+    let need = c .before .need-of .ensures ∙ ap₂ (λ a b. needBy (granted a b) (own e)) (pieced e) (extended e) in
     making-more (o .before .before .before .args .t1) (o .ordered .result) (listed o) (l .loop .inv) (e .before .before .loop-test .taken)
-    refl (j .job-length .ensures) (c .row-of .ensures ∙ ap₂ needsRow (c .before .job-count .ensures) need)
+    refl (j .job-length .ensures) (c .job-count .ensures) need
 
--- the rows are the table's, and so is their plan
+-- the rows are the table's
 made : (c : tie.After-loop Inv-loop μ-loop) → (let l = c .before .loop in let o = c .before .before .before in
-    let t = o .before .before .before .args .t1 in
-    Rows (t .interval .0) (l .streams) (l .lengths) (l .needs) × (rowPlan (t .interval .0) (l .streams) (l .lengths) (l .needs) ≡ planOf t)
-    × ((o .ordered .result .count ≤ 32) × Spare (t .interval .0) (o .ordered .result .count) (l .lengths) (l .needs)))
+    Made (o .before .before .before .args .t1) (o .ordered .result) (l .streams) (l .lengths) (l .counts) (l .each))
 made c =
     let o = c .before .before .before in
+    making-ends (o .before .before .before .args .t1) (o .ordered .result) (listed o) (c .before .loop .inv) (c .loop-test .left)
+
+-- and so is their plan
+planned : (c : tie.After-loop Inv-loop μ-loop) → (let l = c .before .loop in
+    let t = c .before .before .before .before .before .before .args .t1 in
+    let nss = needRows (l .counts) (l .each) in
+    Rows (t .interval .0) (l .streams) (l .lengths) nss × (rowPlan (t .interval .0) (l .streams) (l .lengths) nss ≡ planOf t))
+planned c =
+    let o = c .before .before .before in
     let s = o .before .before .before in
-    let t = s .args .t1 in
-    let m = making-ends t (o .ordered .result) (listed o) (c .before .loop .inv) (c .loop-test .left) in
-    let u = s .pre .0 .1 .used in
-    let p = plan-made t (s .pre .0 .0) u (order o) (m .0) (m .1) (m .2) in
-    (p .0, p .1, spare-made t (s .pre .0 .0) u (order o) (m .0) (m .1) (m .2))
+    plan-made (s .args .t1) (s .pre .0 .0) (s .pre .0 .1 .used) (order o) (made c)
 
 write-plan-requires : tie.Need-write-plan-requires Inv-loop μ-loop
 write-plan-requires c κs =
-    let m = made (c .before) in
-    ((m .0, search needs), m .2)
+    let l = c .before .before .before .before .before in
+    let o = l .before .before .before in
+    let s = o .before .before .before in
+    let t = s .args .t1 in
+    let w = s .pre .0 .0 in
+    let u = s .pre .0 .1 .used in
+    ((planned l .0, search needs), (spare-made t w u (order o) (made l), sized-made t w u (order o) (made l)))
 
 same-length : tie.Need-same-length Inv-loop μ-loop
 same-length c = search needs
@@ -193,8 +199,9 @@ same-length c = search needs
 returns : tie.Need-returns Inv-loop μ-loop
 returns c =
     let p = c .before .before in
-    let s = p .before .before .before .before .before .before .before .before in
-    let plan = made (p .before .before) .1 in
+    let l = p .before .before .before .before .before .before in
+    let s = l .before .before .before .before .before .before in
+    let plan = planned l .1 in
     let e = p .write-plan .ensures in
     (e .0 ∙ ap length plan, e .1 .1 ∙ ap (λ rs. wordsOf rs ++ drop (4 * p .write-plan .result) (now (s .args .plan))) plan)
 
@@ -211,19 +218,20 @@ write-jobs-spec =
     mul-e
     element-copy-out-e
     job-length-requires
-    mul-row-of
-    element-copy-out-row-of
-    mul-t24
-    element-copy-out-t37
+    mul-counts
+    element-copy-out-counts
+    mul-t23
+    element-copy-out-t36
     need-of-requires
-    job-count-requires
-    row-of-requires
     mul-streams
     array-write-streams
     mul-lengths
     array-write-lengths
-    mul-needs
-    array-set-from-needs
+    job-count-requires
+    mul-counts-2
+    array-write-counts
+    mul-each
+    array-write-each
     add-k
     loop-less
     loop-again

@@ -3,62 +3,67 @@
 -- Assumes nothing.
 use mathlib.Core.Logic.{⊎-elim}
 use mathlib.Core.Option.{none, some}
-use mathlib.Core.Path.{_≡_, refl, sym, subst, _∙_}
-use mathlib.Core.List.{List}
+use mathlib.Core.Path.{_≡_, refl, sym, ap, subst, _∙_}
+use mathlib.Core.List.{List, map}
 use Prim.Native.Nat.{ℕ, _≤_, _<_, _+_, _*_, _-_, min}
 use native.Mathlib.Omega.{arith}
 use lib.ListN.{length, getD, replicate}
 use borrow.Author.Needs.{needs}
-use denote.Array.{Array}
-use denote.Builtin.{u32}
 use Rattle.lists.specs.All.{all-at}
-use Rattle.rules.specs.Slots.{Job, Run, choose}
+use Rattle.rules.specs.Slots.{Job, choose}
 use Rattle.plan.specs.Rows.{rowJobs, rowPlan, Padded}
 use Rattle.plan.specs.RowLaws.{needAt, withNeed, jobIn, Wide, plan-few}
-use Rattle.plan.specs.Heads.{heads-padded}
+use Rattle.plan.specs.Needs.{needRows, counted-sized}
+use Rattle.plan.specs.Heads.{firstLeft, heads-padded}
 use Rattle.plan.specs.Kept.{Kept, kept-padded, kept-changed, kept-same}
 use Rattle.plan.specs.Next.{next-same, nextOf}
 use Rattle.plan.specs.Turns.{turns}
 use Rattle.plan.specs.Steps.{Given, lengths-short, State, begin, room, finish, chosen-needs, none-chosen, job-chosen}
 use Rattle.plan.specs.Steps.{coming, idle-less, idle-step, job-less, job-step}
-use Rattle.lists.proofs.Known.{sized}
-use Rattle.plan.proofs.Known.{wide}
 use Rattle.plan.proofs.write_plan.Statement.{statement}
 use Rattle.plan.proofs.write_plan.Tie as tie
 
 abbrev Inv-loop : tie.InvT-loop
-Inv-loop b rows plan₀ streams lengths left₀ heads₀ releases₀ pen₀ t₀ next₀ plan left heads releases pen t next =
-    State b t streams lengths (rowPlan b streams lengths left₀) plan₀ plan left pen
+Inv-loop b rows streams lengths counts each plan₀ left₀ heads₀ releases₀ pen₀ t₀ next₀ plan left heads releases pen t next =
+    State b t streams lengths (rowPlan b streams lengths (needRows counts each)) plan₀ plan left pen
     × (Kept rows lengths left heads releases × (t < next → next ≡ nextOf b t lengths))
 
 abbrev μ-loop : tie.MeasureT-loop
-μ-loop b rows plan₀ streams lengths left₀ heads₀ releases₀ pen₀ t₀ next₀ plan left heads releases pen t next =
+μ-loop b rows streams lengths counts each plan₀ left₀ heads₀ releases₀ pen₀ t₀ next₀ plan left heads releases pen t next =
     turns b t (rowJobs streams lengths left)
 
 -- the function's entry, from a turn of the loop
 abbrev entry : tie.At-loop Inv-loop μ-loop → tie.Start Inv-loop μ-loop
-entry l = l .before .before .before .before .before .before .before .before
+entry l = l .before .before .before .before .before .before .before .before .before
 
-abbrev total : tie.Start Inv-loop μ-loop → List Run
-total z = rowPlan (z .args .b) (z .args .t3) (z .args .t4) (z .args .needs)
+module _ (z : tie.Start Inv-loop μ-loop) where
+  -- the rows that are lent, and what their jobs need at first
+  abbrev ss : List ℕ
+  ss = z .args .streams .now
+
+  abbrev Ts : List ℕ
+  Ts = z .args .lengths .now
+
+  abbrev made : List (List ℕ)
+  made = needRows (z .args .counts .now) (z .args .each .now)
 
 -- what is given of the rows, and how long the arrays are
-given : (z : tie.Start Inv-loop μ-loop) → Given (z .args .b) (z .args .t3) (z .args .t4)
+given : (z : tie.Start Inv-loop μ-loop) → Given (z .args .b) (ss z) (Ts z)
 given z =
     record {
-      streams = sized u32 32 (z .args .t3) (z .good .1 .1 .0);
-      lengths = sized u32 32 (z .args .t4) (z .good .1 .1 .1 .0);
+      streams = z .pre .1 .1 .0;
+      lengths = z .pre .1 .1 .1 .0;
       short = z .pre .0 .0 .short;
       each = z .pre .0 .0 .each;
     }
 
-rows-sized : (z : tie.Start Inv-loop μ-loop) → (length (z .args .needs) ≡ 32) × Wide (z .args .needs)
-rows-sized z = (sized (Array u32 16) 32 (z .args .needs) (z .good .1 .1 .1 .1 .0), wide 32 (z .args .needs) _ (z .good .1 .1 .1 .1 .0))
+rows-sized : (z : tie.Start Inv-loop μ-loop) → (length (made z) ≡ 32) × Wide (made z)
+rows-sized z = counted-sized (z .pre .1 .1 .1 .1)
 
-needs-padded : (z : tie.Start Inv-loop μ-loop) → Padded (z .args .rows) (replicate 16 0) (z .args .needs)
-needs-padded z = (rows-sized z .0, (z .pre .1 .0, z .pre .1 .1 .needs))
+made-padded : (z : tie.Start Inv-loop μ-loop) → Padded (z .args .rows) (replicate 16 0) (made z)
+made-padded z = (rows-sized z .0, (z .pre .1 .0 .0, z .pre .1 .0 .1 .needs))
 
-few : (z : tie.Start Inv-loop μ-loop) → length (total z) ≤ 992
+few : (z : tie.Start Inv-loop μ-loop) → length (rowPlan (z .args .b) (ss z) (Ts z) (made z)) ≤ 992
 few z = plan-few (z .pre .0 .0) (rows-sized z .0) (rows-sized z .1)
 
 -- the words lent are as many as they were, and there is room for a record more
@@ -68,14 +73,14 @@ spare l = room (l .loop .inv .0) (few (entry l)) (entry l .pre .0 .1)
 
 -- a turn that has its place: where it began, and its next release
 abbrev within : tie.After-choose-place Inv-loop μ-loop → tie.In-loop Inv-loop μ-loop
-within p = p .before .before .before .before .before
+within p = p .before .before .before
 
 abbrev release : tie.After-choose-place Inv-loop μ-loop → ℕ
-release p = p .before .before .before .next-after .result
+release p = p .before .before .next-after .result
 
 ahead : (p : tie.After-choose-place Inv-loop μ-loop) → let l = within p .before in
     (l .loop .t < release p) × (release p ≤ entry l .args .b)
-ahead p = coming (within p .before .loop .inv .0) (within p .loop-test .taken) (p .before .before .before .next-after .ensures)
+ahead p = coming (within p .before .loop .inv .0) (within p .loop-test .taken) (p .before .before .next-after .ensures)
 
 -- the turn of a job, its place and its number
 abbrev turn : tie.Then1 Inv-loop μ-loop → tie.At-loop Inv-loop μ-loop
@@ -88,11 +93,11 @@ abbrev number : tie.Then1 Inv-loop μ-loop → ℕ
 number c = getD (turn c .loop .heads) (place c) 0
 
 abbrev jobsAt : tie.At-loop Inv-loop μ-loop → List Job
-jobsAt l = rowJobs (entry l .args .t3) (entry l .args .t4) (l .loop .left)
+jobsAt l = rowJobs (ss (entry l)) (Ts (entry l)) (l .loop .left)
 
 -- it is the job chosen, and one of its row's sixteen
 chosen : (c : tie.Then1 Inv-loop μ-loop) → let l = turn c in
-    (choose (l .loop .t) (jobsAt l) ≡ some (jobIn (entry l .args .t3) (entry l .args .t4) (l .loop .left) (place c) (number c)))
+    (choose (l .loop .t) (jobsAt l) ≡ some (jobIn (ss (entry l)) (Ts (entry l)) (l .loop .left) (place c) (number c)))
     × (number c < 16)
 chosen c =
     let i = turn c .loop .inv in
@@ -106,17 +111,17 @@ abbrev job : tie.After-smaller Inv-loop μ-loop → tie.Then1 Inv-loop μ-loop
 job s = s .before .before
 
 ran : (s : tie.After-smaller Inv-loop μ-loop) → let l = turn (job s) in
-    (s .smaller .result ≡ min (need (job s)) (nextOf (entry l .args .b) (l .loop .t) (entry l .args .t4) - l .loop .t))
+    (s .smaller .result ≡ min (need (job s)) (nextOf (entry l .args .b) (l .loop .t) (Ts (entry l)) - l .loop .t))
     × (l .loop .t + s .smaller .result ≤ release (job s .before))
 ran s =
     let p = job s .before in
     let l = turn (job s) in
     let e : s .smaller .result ≡ min (need (job s)) (release p - l .loop .t) = s .smaller .ensures in
-    (omega (arith, e, p .before .before .before .next-after .ensures), omega (arith, ahead p))
+    (omega (arith, e, p .before .before .next-after .ensures), omega (arith, ahead p))
 
 -- where it has ended, the next job of its row is the first; where not, it is still
 kept : (c : tie.Joined2 Inv-loop μ-loop) → let o = job (c .before) in let l = turn o in
-    Kept (entry l .args .rows) (entry l .args .t4) (withNeed (l .loop .left) (place o) (number o) (need o - c .before .smaller .result))
+    Kept (entry l .args .rows) (Ts (entry l)) (withNeed (l .loop .left) (place o) (number o) (need o - c .before .smaller .result))
     (c .if2 .heads) (c .if2 .releases)
 kept c =
     let s = c .before in
@@ -127,12 +132,12 @@ kept c =
     let r : place o < length (l .loop .left) = omega (arith, o .if1 .taken, l .loop .inv .0 .rows) in
     let q = chosen-needs (l .loop .t) (jobsAt l) (chosen o .0) in
     ⊎-elim
-    (λ w. kept-changed k (place o) (number o) v q r (w .2 .ensures) (w .3 .ensures) (w .4) (w .5))
+    (λ w. kept-changed k (place o) (number o) v q r (w .2 .ensures) (w .4 .ensures) (w .5) (w .6))
     (λ w. kept-same k (place o) (number o) v q refl (omega (arith, ran s .0, w .0 .left)) (w .1) (w .2))
     (c .if2 .came)
 
 abbrev after : tie.After-slice-known2 Inv-loop μ-loop → tie.Joined2 Inv-loop μ-loop
-after c = c .before .before .before .before
+after c = c .before .before .before .before .before
 
 abbrev run : tie.After-slice-known2 Inv-loop μ-loop → tie.After-smaller Inv-loop μ-loop
 run c = after c .before
@@ -144,43 +149,49 @@ idle c =
     let i = w .before .loop .inv in
     none-chosen (i .0) (w .loop-test .taken) (i .1 .0) (c .before .choose-place .ensures) (c .if1 .left)
 
+fill-rows-requires : tie.Need-fill-rows-requires Inv-loop μ-loop
+fill-rows-requires c κs = ((refl, c .before .before .pre .1 .1 .1 .1), made-padded (c .before .before))
+
 first-jobs-requires : tie.Need-first-jobs-requires Inv-loop μ-loop
-first-jobs-requires c κs = needs-padded (c .before .before)
+first-jobs-requires c κs =
+    let z = c .before .before .before .before in
+    subst (Padded (z .args .rows) (replicate 16 0)) (sym (c .before .fill-rows .ensures)) (made-padded z)
 
 first-releases-requires : tie.Need-first-releases-requires Inv-loop μ-loop
 first-releases-requires c κs =
-    let f = c .before .before in
-    let z = f .before .before .before in
-    let padded = heads-padded (z .args .rows) (z .args .needs) (needs-padded z) in
-    ((given z .lengths, lengths-short (given z)), subst (Padded (z .args .rows) 16) (sym (f .first-jobs .ensures)) padded)
+    let f = c .before in
+    let z = f .before .before .before .before .before in
+    let heads = f .first-jobs .ensures ∙ ap (map firstLeft) (f .before .before .fill-rows .ensures) in
+    let padded = heads-padded (z .args .rows) (made z) (made-padded z) in
+    ((given z .lengths, lengths-short (given z)), subst (Padded (z .args .rows) 16) (sym heads) padded)
 
 blank-pen-requires : tie.Need-blank-pen-requires Inv-loop μ-loop
 blank-pen-requires c κs = search needs
 
 loop-holds : tie.Need-loop-holds Inv-loop μ-loop
 loop-holds c =
-    let f = c .before .before .before .before in
-    let z = f .before .before .before in
+    let f = c .before .before .before in
+    let z = f .before .before .before .before .before in
+    let filled = f .before .before .fill-rows .ensures in
     let r = c .before .first-releases .ensures in (
-      begin (z .args .plan .now) (z .pre .0 .0) (given z) (rows-sized z .0) (rows-sized z .1) (c .blank-pen .ensures),
-      (record { heads = f .first-jobs .ensures; releases = r; spare = z .pre .1 .1 .needs }, λ h. absurd (omega arith)),
+      rw filled (begin (z .args .plan .now) (z .pre .0 .0) (given z) (rows-sized z .0) (rows-sized z .1) (c .blank-pen .ensures)),
+      (record { heads = f .first-jobs .ensures; releases = r; spare = rw filled (made-padded z .1 .1) }, λ h. absurd (omega arith)),
     )
 
 next-after-requires : tie.Need-next-after-requires Inv-loop μ-loop
 next-after-requires c κs =
-    let w = c .before in
-    let z = entry (w .before) in (
-      (w .loop-test .taken, (z .pre .0 .0 .short, (z .pre .0 .0 .each, w .before .loop .inv .1 .1))),
-      (given z .lengths, (z .pre .1 .0, z .pre .1 .1 .lengths)),
+    let z = entry (c .before) in (
+      (c .loop-test .taken, (z .pre .0 .0 .short, (z .pre .0 .0 .each, c .before .loop .inv .1 .1))),
+      (given z .lengths, (z .pre .1 .0 .0, z .pre .1 .0 .1 .lengths)),
     )
 
 choose-place-requires : tie.Need-choose-place-requires Inv-loop μ-loop
 choose-place-requires c κs =
-    let w = c .before .before .before .before in
+    let w = c .before .before in
     let l = w .before in
     let g = given (entry l) in (
       (omega (arith, w .loop-test .taken, g .short), (g .lengths, lengths-short g)),
-      kept-padded (l .loop .inv .1 .0) (g .lengths) (l .loop .inv .0 .rows) (entry l .pre .1 .0),
+      kept-padded (l .loop .inv .1 .0) (g .lengths) (l .loop .inv .0 .rows) (entry l .pre .1 .0 .0),
     )
 
 mul-j : tie.Need-mul-j Inv-loop μ-loop
@@ -240,22 +251,21 @@ array-write-heads c = search needs
 mul-release-of : tie.Need-mul-release-of Inv-loop μ-loop
 mul-release-of c = search needs
 
-array-read-release-of : tie.Need-array-read-release-of Inv-loop μ-loop
-array-read-release-of c = search needs
+element-copy-out-release-of : tie.Need-element-copy-out-release-of Inv-loop μ-loop
+element-copy-out-release-of c = search needs
 
 mul-release-of-2 : tie.Need-mul-release-of-2 Inv-loop μ-loop
 mul-release-of-2 c = search needs
 
-array-read-release-of-2 : tie.Need-array-read-release-of-2 Inv-loop μ-loop
-array-read-release-of-2 c = search needs
+array-read-release-of : tie.Need-array-read-release-of Inv-loop μ-loop
+array-read-release-of c = search needs
 
 release-of-requires : tie.Need-release-of-requires Inv-loop μ-loop
 release-of-requires c κs =
-    let o = job (c .before .before .before) in
+    let o = job (c .before .before .before .before) in
     let g = given (entry (turn o)) in
-    let Ts = entry (turn o) .args .t4 in
-    let h : place o < length Ts = omega (arith, o .if1 .taken, g .lengths) in
-    all-at (λ T. T ≤ 1024000) Ts 0 (lengths-short g) (place o) h
+    let own = Ts (entry (turn o)) in
+    all-at (λ T. T ≤ 1024000) own 0 (lengths-short g) (place o) (omega (arith, o .if1 .taken, g .lengths))
 
 mul-releases : tie.Need-mul-releases Inv-loop μ-loop
 mul-releases c = search needs
@@ -266,15 +276,15 @@ array-write-releases c = search needs
 mul-extend-run : tie.Need-mul-extend-run Inv-loop μ-loop
 mul-extend-run c = search needs
 
-array-read-extend-run : tie.Need-array-read-extend-run Inv-loop μ-loop
-array-read-extend-run c = search needs
+element-copy-out-extend-run : tie.Need-element-copy-out-extend-run Inv-loop μ-loop
+element-copy-out-extend-run c = search needs
 
 cast-extend-run : tie.Need-cast-extend-run Inv-loop μ-loop
-cast-extend-run c = record { fits = omega (arith, chosen (job (c .before .before)) .1) }
+cast-extend-run c = record { fits = omega (arith, chosen (job (c .before .before .before)) .1) }
 
 extend-run-requires : tie.Need-extend-run-requires Inv-loop μ-loop
 extend-run-requires c κs =
-    let s = c .before .before in
+    let s = c .before .before .before in
     let l = turn (job s) in
     (spare l .1, (l .loop .inv .0 .ended, omega (arith, ran s .1, ahead (job s .before), entry l .pre .0 .0 .short)))
 
@@ -297,7 +307,7 @@ loop-again c =
     let o = job s in
     let l = turn o in
     let a = entry l .args in
-    let m = o .before .before .before .before .next-after .ensures in
+    let m = o .before .before .before .next-after .ensures in
     let t = l .loop .t in
     let n = s .smaller .result in
     let wrote = c .before .before .extend-run .ensures in (
@@ -305,20 +315,20 @@ loop-again c =
           (chosen o .1) (chosen o .0) (wrote .1) (wrote .0),
       (
         kept (after c),
-        λ h. m ∙ next-same (a .b) t (t + n) (a .t4) (omega arith) (omega (arith, h, m)),
+        λ h. m ∙ next-same (a .b) t (t + n) (a .lengths .now) (omega arith) (omega (arith, h, m)),
       ),
     )
 
 loop-less-2 : tie.Need-loop-less-2 Inv-loop μ-loop
 loop-less-2 c =
     let w = within (c .before) in
-    idle-less (w .before .loop .inv .0) (w .loop-test .taken) (c .before .before .before .before .next-after .ensures)
+    idle-less (w .before .loop .inv .0) (w .loop-test .taken) (c .before .before .before .next-after .ensures)
 
 loop-again-2 : tie.Need-loop-again-2 Inv-loop μ-loop
 loop-again-2 c =
     let w = within (c .before) in
     let l = w .before in (
-      idle-step (l .loop .inv .0) (w .loop-test .taken) (c .before .before .before .before .next-after .ensures) (idle c),
+      idle-step (l .loop .inv .0) (w .loop-test .taken) (c .before .before .before .next-after .ensures) (idle c),
       (l .loop .inv .1 .0, λ h. absurd (omega arith)),
     )
 
@@ -342,6 +352,7 @@ write-plan-spec =
     (tie.spec
     Inv-loop
     μ-loop
+    fill-rows-requires
     first-jobs-requires
     first-releases-requires
     blank-pen-requires
@@ -367,14 +378,14 @@ write-plan-spec =
     mul-heads
     array-write-heads
     mul-release-of
-    array-read-release-of
+    element-copy-out-release-of
     mul-release-of-2
-    array-read-release-of-2
+    array-read-release-of
     release-of-requires
     mul-releases
     array-write-releases
     mul-extend-run
-    array-read-extend-run
+    element-copy-out-extend-run
     cast-extend-run
     extend-run-requires
     add-t
