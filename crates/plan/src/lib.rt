@@ -97,17 +97,14 @@ fn first_left(row: [u32; 16]) -> usize
 }
 
 // The same of each row; those behind the first rows need nothing.
-fn first_jobs(rows: usize, needs: &[[u32; 16]; 32]) -> [usize; 32]
-    requires { ⌜ Padded rows (replicate 16 0) (now needs) ⌝ }
-    ensures { λ r. ⌜ r ≡ map firstLeft (now (needs .entry)) ⌝ }
+fn fill_heads(heads: &mut [usize; 32], rows: usize, needs: &[[u32; 16]; 32])
+    requires { ⌜ (now heads ≡ replicate 32 16) × Padded rows (replicate 16 0) (now needs) ⌝ }
+    ensures { λ _. ⌜ now (heads .exit) ≡ map firstLeft (now (needs .entry)) ⌝ }
 {
-    let mut heads = [16usize; 32];
     for i in 0..rows {
         let row = needs[i];
-        let head = first_left(row);
-        heads[i] = head;
+        heads[i] = first_left(row);
     }
-    heads
 }
 
 // When a row's first unfinished job is released; NEVER where it has none.
@@ -122,16 +119,14 @@ fn release_of(length: u32, job: usize) -> u32
 }
 
 // The same of each row; those behind the first rows have none.
-fn first_releases(rows: usize, lengths: &[u32; 32], heads: &[usize; 32]) -> [u32; 32]
-    requires { ⌜ (length (now lengths) ≡ 32) × Short (now lengths) ⌝ }
+fn fill_releases(releases: &mut [u32; 32], rows: usize, lengths: &[u32; 32], heads: &[usize; 32])
+    requires { ⌜ (now releases ≡ replicate 32 never) × ((length (now lengths) ≡ 32) × Short (now lengths)) ⌝ }
     requires { ⌜ Padded rows 16 (now heads) ⌝ }
-    ensures { λ r. ⌜ r ≡ releasesOf (now (lengths .entry)) (now (heads .entry)) ⌝ }
+    ensures { λ _. ⌜ now (releases .exit) ≡ releasesOf (now (lengths .entry)) (now (heads .entry)) ⌝ }
 {
-    let mut releases = [NEVER; 32];
     for i in 0..rows {
         releases[i] = release_of(lengths[i], heads[i]);
     }
-    releases
 }
 
 // The place of the job that slot t goes to: of those due first the first; 32 where the slot is idle.
@@ -250,8 +245,10 @@ pub fn write_plan(
 {
     let mut left = [[0u32; 16]; 32];
     fill_rows(&mut left, rows, counts, each);
-    let mut heads = first_jobs(rows, &left);
-    let mut releases = first_releases(rows, lengths, &heads);
+    let mut heads = [16usize; 32];
+    fill_heads(&mut heads, rows, &left);
+    let mut releases = [NEVER; 32];
+    fill_releases(&mut releases, rows, lengths, &heads);
     let mut pen = blank_pen();
     let mut t: u32 = 0;
     let mut next: u32 = 0;

@@ -34,7 +34,7 @@ abbrev μ-loop : tie.MeasureT-loop
 
 -- the function's entry, from a turn of the loop
 abbrev entry : tie.At-loop Inv-loop μ-loop → tie.Start Inv-loop μ-loop
-entry l = l .before .before .before .before .before .before .before .before .before
+entry l = l .before .before .before .before .before .before .before .before .before .before .before
 
 module _ (z : tie.Start Inv-loop μ-loop) where
   -- the rows that are lent, and what their jobs need at first
@@ -152,30 +152,33 @@ idle c =
 fill-rows-requires : tie.Need-fill-rows-requires Inv-loop μ-loop
 fill-rows-requires c κs = ((refl, c .before .before .pre .1 .1 .1 .1), made-padded (c .before .before))
 
-first-jobs-requires : tie.Need-first-jobs-requires Inv-loop μ-loop
-first-jobs-requires c κs =
-    let z = c .before .before .before .before in
-    subst (Padded (z .args .rows) (replicate 16 0)) (sym (c .before .fill-rows .ensures)) (made-padded z)
+fill-heads-requires : tie.Need-fill-heads-requires Inv-loop μ-loop
+fill-heads-requires c κs =
+    let f = c .before .before in
+    let z = f .before .before .before in
+    (refl, subst (Padded (z .args .rows) (replicate 16 0)) (sym (f .fill-rows .ensures)) (made-padded z))
 
-first-releases-requires : tie.Need-first-releases-requires Inv-loop μ-loop
-first-releases-requires c κs =
-    let f = c .before in
-    let z = f .before .before .before .before .before in
-    let heads = f .first-jobs .ensures ∙ ap (map firstLeft) (f .before .before .fill-rows .ensures) in
-    let padded = heads-padded (z .args .rows) (made z) (made-padded z) in
-    ((given z .lengths, lengths-short (given z)), subst (Padded (z .args .rows) 16) (sym heads) padded)
+fill-releases-requires : tie.Need-fill-releases-requires Inv-loop μ-loop
+fill-releases-requires c κs =
+    let h = c .before .before in
+    let f = h .before .before .before in
+    let z = f .before .before .before in
+    let heads = h .fill-heads .ensures ∙ ap (map firstLeft) (f .fill-rows .ensures) in
+    let g = given z in
+    ((refl, (g .lengths, lengths-short g)), subst (Padded (z .args .rows) 16) (sym heads) (heads-padded (z .args .rows) _ (made-padded z)))
 
 blank-pen-requires : tie.Need-blank-pen-requires Inv-loop μ-loop
 blank-pen-requires c κs = search needs
 
 loop-holds : tie.Need-loop-holds Inv-loop μ-loop
 loop-holds c =
-    let f = c .before .before .before in
-    let z = f .before .before .before .before .before in
-    let filled = f .before .before .fill-rows .ensures in
-    let r = c .before .first-releases .ensures in (
+    let h = c .before .before .before .before in
+    let f = h .before .before .before in
+    let z = f .before .before .before in
+    let filled = f .fill-rows .ensures in
+    let r = c .before .fill-releases .ensures in (
       rw filled (begin (z .args .plan .now) (z .pre .0 .0) (given z) (rows-sized z .0) (rows-sized z .1) (c .blank-pen .ensures)),
-      (record { heads = f .first-jobs .ensures; releases = r; spare = rw filled (made-padded z .1 .1) }, λ h. absurd (omega arith)),
+      (record { heads = h .fill-heads .ensures; releases = r; spare = rw filled (made-padded z .1 .1) }, λ h. absurd (omega arith)),
     )
 
 next-after-requires : tie.Need-next-after-requires Inv-loop μ-loop
@@ -264,8 +267,7 @@ release-of-requires : tie.Need-release-of-requires Inv-loop μ-loop
 release-of-requires c κs =
     let o = job (c .before .before .before .before) in
     let g = given (entry (turn o)) in
-    let own = Ts (entry (turn o)) in
-    all-at (λ T. T ≤ 1024000) own 0 (lengths-short g) (place o) (omega (arith, o .if1 .taken, g .lengths))
+    all-at (λ T. T ≤ 1024000) (Ts (entry (turn o))) 0 (lengths-short g) (place o) (omega (arith, o .if1 .taken, g .lengths))
 
 mul-releases : tie.Need-mul-releases Inv-loop μ-loop
 mul-releases c = search needs
@@ -353,8 +355,8 @@ write-plan-spec =
     Inv-loop
     μ-loop
     fill-rows-requires
-    first-jobs-requires
-    first-releases-requires
+    fill-heads-requires
+    fill-releases-requires
     blank-pen-requires
     loop-holds
     next-after-requires

@@ -1,6 +1,6 @@
--- `plan::first_jobs` meets its contract. The invariant: the first i heads are those of the first i rows, and the others are 16. The
+-- `plan::fill_heads` meets its contract. The invariant: the first i heads are those of the first i rows, and the others are 16. The
 -- measure is the number of rows left. Assumes nothing.
-use mathlib.Core.Path.{_≡_, sym, _∙_}
+use mathlib.Core.Path.{_≡_, sym, subst, _∙_}
 use mathlib.Core.List.{map}
 use Prim.Native.Nat.{_-_}
 use native.Mathlib.Omega.{arith}
@@ -8,21 +8,23 @@ use lib.ListN.{length, length-map}
 use borrow.Author.Needs.{needs}
 use Rattle.lists.specs.Spare.{Filling, filling-none, filling-more, filling-all}
 use Rattle.plan.specs.Heads.{firstLeft, head-at, heads-spare}
-use Rattle.plan.proofs.first_jobs.Statement.{statement}
-use Rattle.plan.proofs.first_jobs.Tie as tie
+use Rattle.plan.proofs.fill_heads.Statement.{statement}
+use Rattle.plan.proofs.fill_heads.Tie as tie
 
 abbrev Inv-loop : tie.InvT-loop
-Inv-loop rows needs heads₀ i₀ heads i = Filling 16 (map firstLeft needs) rows heads i
+Inv-loop heads₀ rows needs i₀ heads i = Filling 16 (map firstLeft needs) rows heads i
 
 abbrev μ-loop : tie.MeasureT-loop
-μ-loop rows needs heads₀ i₀ heads i = rows - i
+μ-loop heads₀ rows needs i₀ heads i = rows - i
 
 -- how many heads there are
 heads-sized : (z : tie.Start Inv-loop μ-loop) → length (map firstLeft (z .args .needs .now)) ≡ 32
-heads-sized z = length-map (z .args .needs .now) firstLeft ∙ z .pre .0
+heads-sized z = length-map (z .args .needs .now) firstLeft ∙ z .pre .1 .0
 
 loop-holds : tie.Need-loop-holds Inv-loop μ-loop
-loop-holds c = filling-none (heads-sized c)
+loop-holds c =
+    let a = c .args in
+    subst (λ hs. Filling 16 (map firstLeft (a .needs .now)) (a .rows) hs 0) (sym (c .pre .0)) (filling-none (heads-sized c))
 
 mul-row : tie.Need-mul-row Inv-loop μ-loop
 mul-row c = search needs
@@ -36,8 +38,8 @@ first-left-requires c κs = search needs
 mul-heads : tie.Need-mul-heads Inv-loop μ-loop
 mul-heads c = search needs
 
-array-write-heads : tie.Need-array-write-heads Inv-loop μ-loop
-array-write-heads c = search needs
+element-write-heads : tie.Need-element-write-heads Inv-loop μ-loop
+element-write-heads c = search needs
 
 add-i : tie.Need-add-i Inv-loop μ-loop
 add-i c = search needs
@@ -50,16 +52,17 @@ loop-again c =
     let l = c .before .before .before in
     let s = l .before in
     let more = c .before .before .loop-test .taken in
-    filling-more (l .loop .inv) 0 (omega (arith, heads-sized s)) more (c .first-left .ensures ∙ sym (head-at (s .args .needs .now) (l .loop .i)))
+    let at = head-at (s .args .needs .now) (l .loop .i) in
+    filling-more (l .loop .inv) 0 (omega (arith, heads-sized s)) more (c .first-left .ensures ∙ sym at)
 
 returns : tie.Need-returns Inv-loop μ-loop
 returns c =
     let l = c .before in
     let s = l .before in
-    filling-all (l .loop .inv) (c .loop-test .left) (heads-spare (s .args .rows) (s .args .needs .now) (s .pre .1 .1))
+    filling-all (l .loop .inv) (c .loop-test .left) (heads-spare (s .args .rows) (s .args .needs .now) (s .pre .1 .1 .1))
 
-pub first-jobs-spec : {M : Type 1} → statement M
-first-jobs-spec =
+pub fill-heads-spec : {M : Type 1} → statement M
+fill-heads-spec =
     tie.close
     (tie.spec
     Inv-loop
@@ -69,7 +72,7 @@ first-jobs-spec =
     element-copy-out-row
     first-left-requires
     mul-heads
-    array-write-heads
+    element-write-heads
     add-i
     loop-less
     loop-again
