@@ -23,12 +23,10 @@ use Rattle.laws.specs.Extras.{stepCOf, extra-le}
 use Rattle.laws.specs.Places.{Tidy, tidy-held}
 use Rattle.laws.specs.Closed.{takes, takes-held, at-places, had-most}
 use Rattle.ahead.specs.Loop.{lookedPast}
+use Rattle.places.specs.Put.{withEntries}
 use Rattle.share.specs.Shares.{granted, sharingOf, grantOf, grants-right}
 use Rattle.share.specs.declared.Granted.{Granted}
 use Rattle.share.specs.declared.Sharing.{Sharing}
-
-abbrev pub withEntries : Table → List Entry → Table
-withEntries t ps = record { interval = t .interval; entries = ps }
 
 -- a loop that moves the places on has not yet come to place i
 pub unmoved : (t : Table) (f : Entry → Entry) {next : Table} {i : ℕ} → next ≡ withEntries t (mapped f i (t .entries))

@@ -11,7 +11,7 @@ use Rattle.rules.specs.Calls.{mostRecords, wordsOf, planOf, advanced, Beacon, b
 use Rattle.rules.specs.WellFormed.{WellFormed}
 use Rattle.interval.specs.Plan.{plan-right}
 use Rattle.share.specs.declared.Shares.{Shares}
-use Rattle.planner.specs.Changes.{Moves}
+use Rattle.planner.specs.Moves.{Moves}
 use Rattle.printing.specs.Printed.{slotRows}
 use Rattle.answers.specs.Meaning.{slotRowOf}
 use Rattle.answers.specs.Room.{planWords}

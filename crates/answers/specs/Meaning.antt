@@ -8,7 +8,7 @@ use Rattle.lists.specs.Lists.{concatMap}
 use Rattle.model.specs.declared.Table.{Table}
 use Rattle.rules.specs.Slots.{Run}
 use Rattle.rules.specs.Calls.{openAnswer, opened, offerAnswer, offered, heldAnswer, withdrawn, planOf, advanced, beacon}
-use Rattle.planner.specs.Numbers.{noTable}
+use Rattle.opening.specs.Tables.{noTable}
 use Rattle.text.specs.Rows.{rowsOf}
 use Rattle.commands.specs.Commands.{openVerb, offerVerb, withdrawVerb, beaconVerb, commandOf}
 use Rattle.commands.specs.declared.Command.{Command}

@@ -7,7 +7,7 @@ use Rattle.model.specs.Entries.{freeEntry}
 use Rattle.model.specs.declared.Table.{Table}
 use Rattle.rules.specs.Calls.{places}
 use Rattle.rules.specs.WellFormed.{WellFormed}
-use Rattle.planner.specs.Changes.{putIn, put-past}
+use Rattle.places.specs.Put.{putIn, put-past}
 use Rattle.answers.specs.declared.State.{State}
 
 -- the words of a plan's memory, and the most bytes of a row's answer: that of a beacon with 1,024 records of 51 bytes

@@ -6,7 +6,8 @@ ghost use lib.Dec.{eqb};
 ghost use lib.ListN.{length};
 ghost use Rattle.model.specs.Entries.{freeEntry};
 ghost use Rattle.rules.specs.Calls.{places, openAnswer};
-ghost use Rattle.planner.specs.Changes.{putIn, Moves};
+ghost use Rattle.places.specs.Put.{putIn};
+ghost use Rattle.planner.specs.Moves.{Moves};
 ghost use Rattle.commands.specs.Commands.{openVerb, beaconVerb};
 ghost use Rattle.commands.specs.declared.Command.the-variants.{Offer, Withdraw, Beacon};
 ghost use Rattle.printing.specs.Printed.{plainRow, written};
@@ -35,7 +36,7 @@ pub fn answer_open(units: u32, out: &mut [u8], at: usize) -> Opening
     ensures { λ r. let bs = plainRow openVerb (openAnswer units) in
         ⌜ (r .succeeded ≡ eqb (openAnswer units) 0) × ((r .at ≡ at + length bs) × (now (out .exit) ≡ written (now (out .entry)) at bs)) ⌝ }
 {
-    let answer = planner::open_answer(units);
+    let answer = opening::open_answer(units);
     let number = refusals::open_number(answer);
     let next = printing::plain_row(out, at, b"open", number);
     Opening {
@@ -75,7 +76,7 @@ pub fn answer_offer(ready: bool, t: Table, q: Request, out: &mut [u8], at: usize
         let next = printing::stream_row(out, at, b"offer", q.stream, 51);
         return nothing_put(next);
     }
-    let d = planner::decide(t, q);
+    let d = admission::decide(t, q);
     let answer = d.answer;
     let entry = d.entry;
     let number = refusals::offer_number(answer);
@@ -98,7 +99,7 @@ pub fn answer_withdraw(ready: bool, t: Table, stream: u32, out: &mut [u8], at: u
         let next = printing::stream_row(out, at, b"withdraw", stream, 51);
         return nothing_put(next);
     }
-    let r = planner::release(t, stream);
+    let r = held::release(t, stream);
     let answer = r.answer;
     let number = refusals::held_number(answer);
     let next = printing::stream_row(out, at, b"withdraw", stream, number);

@@ -9,7 +9,7 @@ ghost use Rattle.rules.specs.Calls.{openAnswer, opened, offerAnswer, offered, h
 ghost use Rattle.rules.specs.Reading.{windowAnswer, windowPart};
 ghost use Rattle.rules.specs.WellFormed.{WellFormed};
 ghost use Rattle.refusals.specs.Numbers.{beaconNumber};
-ghost use Rattle.planner.specs.Numbers.{request};
+ghost use Rattle.admission.specs.Six.{request};
 ghost use Rattle.expected.specs.Said.{table1};
 ghost use Rattle.expected.specs.Words.{rows, Begins, Records, Each};
 use model::Table;
@@ -53,7 +53,7 @@ fn open(units: u32) -> Table
     ensures is { λ r. ⌜ r ≡ opened units ⌝ }
     ensures formed { λ r. ⌜ WellFormed r ⌝ }
 {
-    let o = planner::open(units);
+    let o = opening::open(units);
     let answer = o.answer;
     check::expect(refusals::open_number(answer) == 0);
     o.table
@@ -74,7 +74,7 @@ fn offer(
     ensures is { λ r. ⌜ r ≡ offered t (request stream kind period min max life) ⌝ }
     ensures formed { λ r. ⌜ WellFormed r ⌝ }
 {
-    let o = planner::offer(t, stream, kind, period, min, max, life);
+    let o = admission::offer(t, stream, kind, period, min, max, life);
     let answer = o.answer;
     check::expect(refusals::offer_number(answer) == expected);
     o.table
@@ -86,7 +86,7 @@ fn withdraw(t: Table, stream: u32) -> Table
     ensures is { λ r. ⌜ r ≡ withdrawn t stream ⌝ }
     ensures formed { λ r. ⌜ WellFormed r ⌝ }
 {
-    let w = planner::withdraw(t, stream);
+    let w = held::withdraw(t, stream);
     let answer = w.answer;
     check::expect(refusals::held_number(answer) == 0);
     w.table

@@ -10,7 +10,7 @@ ghost use Rattle.lists.specs.First.{firstOf};
 ghost use Rattle.rules.specs.Calls.{openAnswer, opened, offerAnswer, offered, heldAnswer, withdrawn, beacon};
 ghost use Rattle.rules.specs.Reading.{enquired, windowAnswer, windowPart};
 ghost use Rattle.rules.specs.WellFormed.{WellFormed};
-ghost use Rattle.planner.specs.Numbers.{request};
+ghost use Rattle.admission.specs.Six.{request};
 ghost use Rattle.survey.specs.Search.{isHeldAs};
 use model::Entry;
 use model::Request;
@@ -86,7 +86,7 @@ pub extern "C" fn gelmush_offer(
         max,
         life,
     };
-    let d = planner::decide(*table, q);
+    let d = admission::decide(*table, q);
     let place = d.place;
     let entry = d.entry;
     // A refused offer puts nothing in the table: place 32 stands for none.
@@ -117,7 +117,7 @@ pub extern "C" fn gelmush_open(table: &mut Table, units: u32) -> u32
     ensures { λ r. let a = openAnswer units in ⌜ (r ≡ a) × (now (table .exit) ≡ cond (eqb a 0) (opened units) (now (table .entry))) ⌝ }
 {
     if ranges::is_within(1, 1000, units) {
-        *table = planner::empty_table(1024 * units);
+        *table = opening::empty_table(1024 * units);
         return 0;
     }
     1

@@ -7,7 +7,8 @@ use Rattle.model.specs.declared.Entry.{Entry}
 use Rattle.model.specs.declared.Table.{Table}
 use Rattle.rules.specs.Calls.{places, advanced}
 use Rattle.share.specs.declared.Shares.{Shares}
-use Rattle.planner.specs.Changes.{putIn, put-past, Moves}
+use Rattle.places.specs.Put.{putIn, put-past}
+use Rattle.planner.specs.Moves.{Moves}
 use Rattle.commands.specs.declared.Command.{Command}
 use Rattle.commands.specs.declared.Command.the-variants.{Beacon}
 use Rattle.answers.specs.Meaning.{stateAfter}

@@ -35,7 +35,7 @@ pub fn first_shelf() -> Shelf
     ensures is { λ r. ⌜ r ≡ firstShelf ⌝ }
     ensures formed { λ r. ⌜ Ready (r .state) ⌝ }
 {
-    let none = planner::open(0);
+    let none = opening::open(0);
     let table = none.table;
     let reader = rows::at_start();
     let state = State {
@@ -97,7 +97,7 @@ pub fn serve_rows(s: Shelf, chunk: &[u8], plan: &mut [u32], out: &mut [u8], at: 
                     next = o.at;
                     if o.succeeded {
                         ready = true;
-                        table = planner::opened_table(units);
+                        table = opening::opened_table(units);
                     }
                 }
                 Command::Offer(q) => {

@@ -24,7 +24,7 @@ use Rattle.laws.specs.Places.{Tidy, tidy-held}
 use Rattle.laws.specs.Closed.{at-places}
 use Rattle.ahead.specs.Served.{served}
 use Rattle.ahead.specs.Leap.{eventIn, Quiet, skipped, skipped-none}
-use Rattle.advance.specs.Next.{withEntries}
+use Rattle.places.specs.Put.{withEntries}
 
 abbrev longest : ℕ
 longest = 65535

@@ -11,7 +11,7 @@ use Rattle.lists.specs.Spare.{Spare}
 use Rattle.model.specs.Entries.{freeEntry}
 use Rattle.model.specs.declared.Table.{Table}
 use Rattle.model.proofs.Table as T
-use Rattle.amounts.proofs.Known.{inside}
+use Rattle.places.proofs.Known.{inside}
 use Rattle.share.specs.declared.Queue.{Queue}
 use Rattle.share.specs.Queues.{Used}
 use Rattle.share.proofs.Queue as Q

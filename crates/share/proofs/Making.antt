@@ -21,7 +21,7 @@ use Rattle.laws.specs.Places.{Tidy, load-places}
 use Rattle.laws.specs.Closed.{mostSlots, load-most}
 use Rattle.laws.specs.Ranks.{rank}
 use Rattle.amounts.specs.Amounts.{loadOf, owedTo, limitOf, jobsIn}
-use Rattle.amounts.proofs.Known.{inside, past, size}
+use Rattle.places.proofs.Known.{inside, past, size}
 use Rattle.share.specs.declared.Queue.{Queue}
 use Rattle.share.specs.Queues.{Queued, free-place}
 

@@ -8,15 +8,16 @@ ghost use Rattle.lists.specs.Lists.{within};
 ghost use Rattle.rules.specs.Calls.{openAnswer, opened, offered, withdrawn, beacon};
 ghost use Rattle.rules.specs.WellFormed.{WellFormed};
 ghost use Rattle.refusals.specs.Numbers.{openNumber, beaconNumber};
-ghost use Rattle.planner.specs.Numbers.{request, noTable};
+ghost use Rattle.opening.specs.Tables.{noTable};
+ghost use Rattle.admission.specs.Six.{request};
 use model::Table;
 use planner::Beaconing;
-use planner::Opening;
+use opening::Opening;
 
 pub fn open(units: u32) -> Opening
     ensures { λ r. ⌜ (openNumber (r .answer) ≡ openAnswer units) × (r .table ≡ cond (eqb (openAnswer units) 0) (opened units) noTable) ⌝ }
 {
-    let o = planner::open(units);
+    let o = opening::open(units);
     let answer = o.answer;
     display::plain_row(b"open", refusals::open_number(answer));
     o
@@ -37,7 +38,7 @@ pub fn offer(t: Table, stream: u32, kind: u32, period: u32, min: u32, max: u32, 
     ensures is { λ r. ⌜ r ≡ offered t (request stream kind period min max life) ⌝ }
     ensures formed { λ r. ⌜ WellFormed r ⌝ }
 {
-    let o = planner::offer(t, stream, kind, period, min, max, life);
+    let o = admission::offer(t, stream, kind, period, min, max, life);
     let answer = o.answer;
     display::stream_row(b"offer", stream, refusals::offer_number(answer));
     o.table
@@ -48,7 +49,7 @@ pub fn withdraw(t: Table, stream: u32) -> Table
     ensures is { λ r. ⌜ r ≡ withdrawn t stream ⌝ }
     ensures formed { λ r. ⌜ WellFormed r ⌝ }
 {
-    let w = planner::withdraw(t, stream);
+    let w = held::withdraw(t, stream);
     let answer = w.answer;
     display::stream_row(b"withdraw", stream, refusals::held_number(answer));
     w.table
@@ -57,7 +58,7 @@ pub fn withdraw(t: Table, stream: u32) -> Table
 pub fn enquire(t: Table, stream: u32)
     requires { ⌜ WellFormed t ⌝ }
 {
-    let q = planner::enquire(t, stream);
+    let q = held::enquire(t, stream);
     let answer = q.answer;
     display::stream_row(b"enquire", stream, refusals::held_number(answer));
     display::entry_row(q.entry);

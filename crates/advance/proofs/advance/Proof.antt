@@ -11,7 +11,8 @@ use Rattle.share.proofs.Known.{used-inside, used-rest}
 use Prim.Native.Nat.{_-_, _≤_, _<_}
 use lib.ListN.{length, getD}
 use Rattle.share.specs.Shares.{sharingOf, grantOf, piece-found, extra-found}
-use Rattle.advance.specs.Next.{WithinAmounts, withEntries, unmoved, afterGrant, advanced-places, grants-within}
+use Rattle.places.specs.Put.{withEntries}
+use Rattle.advance.specs.Next.{WithinAmounts, unmoved, afterGrant, advanced-places, grants-within}
 use borrow.Author.Needs.{needs}
 use Rattle.advance.proofs.advance.Statement.{statement}
 use Rattle.advance.proofs.advance.Tie as tie

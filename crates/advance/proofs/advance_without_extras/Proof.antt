@@ -14,7 +14,8 @@ use Rattle.rules.specs.Share.{capacity}
 use Rattle.rules.specs.Calls.{heldOf}
 use Rattle.laws.specs.Closed.{takes}
 use Rattle.share.specs.declared.Granted.{Granted}
-use Rattle.advance.specs.Next.{WithinAmounts, withEntries, unmoved, afterGrant, pieceOnly, past-places, pieces-within}
+use Rattle.places.specs.Put.{withEntries}
+use Rattle.advance.specs.Next.{WithinAmounts, unmoved, afterGrant, pieceOnly, past-places, pieces-within}
 use borrow.Author.Needs.{needs}
 use Rattle.advance.proofs.advance_without_extras.Statement.{statement}
 use Rattle.advance.proofs.advance_without_extras.Tie as tie

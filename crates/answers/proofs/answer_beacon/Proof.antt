@@ -5,7 +5,7 @@ use denote.Ref.{now}
 use borrow.Author.Tests.{not-true, not-false}
 use Rattle.commands.specs.Commands.{beaconVerb}
 use Rattle.refusals.specs.Numbers.{beaconNumber}
-use Rattle.planner.specs.Changes.{stays-put}
+use Rattle.planner.specs.Moves.{stays-put}
 use Rattle.printing.specs.PrintedLaws.{wrote, wrote-then, contract, plain-row-most}
 use Rattle.answers.specs.Meaning.{stateAfter, planAfter, rowsFor}
 use Rattle.answers.specs.Beacons.{Made, made}

@@ -37,7 +37,7 @@ use Rattle.model.proofs.free_entry.Met as free-thm
 use Rattle.rules.specs.Calls.{places, heldAnswer}
 use Rattle.rules.specs.Reading.{enquired}
 use Rattle.rules.specs.WellFormed.{WellFormed}
-use Rattle.planner.specs.Held.{held-answer, held-entry, none-entry}
+use Rattle.held.specs.Held.{held-answer, held-entry, none-entry}
 use Rattle.host.specs.declared.Found.{Found}
 use Rattle.host.proofs.Found as F
 use Rattle.host.proofs.Found.Laws as F′

@@ -52,14 +52,14 @@ use Rattle.model.proofs.Table as T
 use Rattle.model.proofs.Table.Laws as T′
 use Rattle.rules.specs.Calls.{offerAnswer, offered}
 use Rattle.rules.specs.WellFormed.{WellFormed}
-use Rattle.planner.specs.Numbers.{request}
-use Rattle.planner.specs.declared.Decision.{Decision}
-use Rattle.planner.proofs.Decision as D
-use Rattle.planner.proofs.Decision.Laws as D′
-use Rattle.planner.proofs.decide as decide
-use Rattle.planner.proofs.decide.Symbol as decide-def
-use Rattle.planner.proofs.decide.Symbol.{name as #planner·decide}
-use Rattle.planner.proofs.decide.Met as decide-thm
+use Rattle.admission.specs.Six.{request}
+use Rattle.admission.specs.declared.Decision.{Decision}
+use Rattle.admission.proofs.Decision as D
+use Rattle.admission.proofs.Decision.Laws as D′
+use Rattle.admission.proofs.decide as decide
+use Rattle.admission.proofs.decide.Symbol as decide-def
+use Rattle.admission.proofs.decide.Symbol.{name as #admission·decide}
+use Rattle.admission.proofs.decide.Met as decide-thm
 use Rattle.refusals.proofs.offer_number.Symbol as number-def
 use Rattle.refusals.proofs.offer_number.Symbol.{name as #refusals·offer-number}
 use Rattle.refusals.proofs.offer_number.Met as number-thm
@@ -172,7 +172,7 @@ module _ {M : Type 1} (𝓤 : URA M) (H : Heap 𝓤) (A : Atoms 𝓤) (at-mem : 
         (λ d. exE 𝓤 _ (λ ws. snd∗ 𝓤 (sem 𝓤 H A (lasts decide.ended tt (h, (n, tt)) ws)) (fact 𝓤 (Done d))))
 
     -- In the comments on contexts, _n is the cell of the n-th local, or room for it, and …n is what frees it.
-    walk : (𝓣 : Tables 𝓤 H) → Triple 𝓤 (𝓣 .C #planner·decide) Decide → Triple 𝓤 (𝓣 .C #refusals·offer-number) Number
+    walk : (𝓣 : Tables 𝓤 H) → Triple 𝓤 (𝓣 .C #admission·decide) Decide → Triple 𝓤 (𝓣 .C #refusals·offer-number) Number
         → ent 𝓤 (sep 𝓤 (onEntry 𝓤 H A lent.signature (κ, tt) (q, tt) x at) (fact 𝓤 (WellFormed h)))
         (WpFn 𝓤 H (𝓣 .C) (𝓣 .Λ) code.function (vptr b o ∷ values n) Post)
     walk 𝓣 known numbered =
@@ -223,7 +223,7 @@ module _ {M : Type 1} (𝓤 : URA M) (H : Heap 𝓤) (A : Atoms 𝓤) (at-mem : 
         gone ! $ gone ! $ gone ! $ gone ! $ gone ! $ gone ! $ gone ! $ gone ! $ gone ! $ gone ! $ gone ! $ gone ! $ gone ! $ gone ! $
         free1 ! $ free1 ! $ free1 ! $ free1 ! $ free0 ! $ by ! (exits d e f)))))))))))))))))))))))
 
-  lent-meets : Given 𝓤 H A → (𝓣 : Tables 𝓤 H) → Triple 𝓤 (𝓣 .C #planner·decide) Decide → Triple 𝓤 (𝓣 .C #refusals·offer-number) Number
+  lent-meets : Given 𝓤 H A → (𝓣 : Tables 𝓤 H) → Triple 𝓤 (𝓣 .C #admission·decide) Decide → Triple 𝓤 (𝓣 .C #refusals·offer-number) Number
       → Meets 𝓤 H A lent.signature (WpFn 𝓤 H (𝓣 .C) (𝓣 .Λ) code.function) (lent.spec 𝓤 H A at-mem run)
   lent-meets W 𝓣 known numbered =
       let n = goes-none 𝓤 H A W 1 (λ _. u32) yes (λ κs x f. refl) in
@@ -255,7 +255,7 @@ gelmush-offer-spec 𝓤 H 𝓜 𝓖 𝓡 =
     entered 𝓤 H (tripleOf 𝓤 H (𝓖 .A) lent.signature (lent.spec 𝓤 H (𝓖 .A) (𝓜 .mem) (𝓡 .run)))
     (tables 𝓤 H 𝓜 𝓡 code.env .C) (tables 𝓤 H 𝓜 𝓡 code.env .Λ) #host·gelmush-offer code.function (code.unfolded 𝓤 H 𝓜 𝓡)
     (lent-meets 𝓤 H (𝓖 .A) (𝓜 .mem) (𝓡 .run) (givenOf 𝓤 H 𝓜 𝓖) (tablesOf 𝓤 H 𝓜 (tables 𝓤 H 𝓜 𝓡 code.env))
-    (cited 𝓤 H (Decide 𝓤 H (𝓖 .A) (𝓜 .mem) (𝓡 .run)) 𝓜 𝓡 code.env #planner·decide decide-def.routine code.calls-planner·decide
+    (cited 𝓤 H (Decide 𝓤 H (𝓖 .A) (𝓜 .mem) (𝓡 .run)) 𝓜 𝓡 code.env #admission·decide decide-def.routine code.calls-admission·decide
     (decide-thm.met 𝓤 H 𝓜 𝓖 𝓡))
     (cited 𝓤 H (Number 𝓤 H (𝓖 .A) (𝓜 .mem) (𝓡 .run)) 𝓜 𝓡 code.env #refusals·offer-number number-def.routine
     code.calls-refusals·offer-number (number-thm.met 𝓤 H 𝓜 𝓖 𝓡)))

@@ -38,11 +38,11 @@ use Rattle.ranges.proofs.is_within as within′
 use Rattle.ranges.proofs.is_within.Symbol as within-def
 use Rattle.ranges.proofs.is_within.Symbol.{name as #ranges·is-within}
 use Rattle.ranges.proofs.is_within.Met as within-thm
-use Rattle.planner.specs.Numbers.{noneHeld}
-use Rattle.planner.proofs.empty_table as empty′
-use Rattle.planner.proofs.empty_table.Symbol as empty-def
-use Rattle.planner.proofs.empty_table.Symbol.{name as #planner·empty-table}
-use Rattle.planner.proofs.empty_table.Met as empty-thm
+use Rattle.opening.specs.Tables.{noneHeld}
+use Rattle.opening.proofs.empty_table as empty′
+use Rattle.opening.proofs.empty_table.Symbol as empty-def
+use Rattle.opening.proofs.empty_table.Symbol.{name as #opening·empty-table}
+use Rattle.opening.proofs.empty_table.Met as empty-thm
 use Rattle.rules.specs.Calls.{openAnswer, opened}
 use Rattle.host.proofs.Lent.{machine, lent, loan, number, large, gone, table-opens, table-closes}
 use Rattle.host.proofs.Walk.{Gives, gives, is-true, is-false, calls-value, tests}
@@ -102,7 +102,7 @@ module _ {M : Type 1} (𝓤 : URA M) (H : Heap 𝓤) (A : Atoms 𝓤) (at-mem : 
     Ends = Post 𝓤 (λ t n. emp 𝓤) Says H A W κ q b o γ h n
 
     -- In the comments on contexts, _n is the cell of the n-th local, or room for it, and …n is what frees it.
-    walk : Triple 𝓤 (𝓣 .C #ranges·is-within) Within → Triple 𝓤 (𝓣 .C #planner·empty-table) Empty → n < 2 ^ 32
+    walk : Triple 𝓤 (𝓣 .C #ranges·is-within) Within → Triple 𝓤 (𝓣 .C #opening·empty-table) Empty → n < 2 ^ 32
         → ent 𝓤 (⋆ 𝓤 H A (‵ (fobs γ (lent h)) ∷ ‵ (loan κ b o γ) ∷ ‵ (flft κ q) ∷ raw (emp 𝓤) ∷ []))
         (WpFn 𝓤 H (𝓣 .C) (𝓣 .Λ) code.function (vptr b o ∷ vint w32 n ∷ []) Ends)
     walk known-within known-empty fits =
@@ -150,5 +150,5 @@ gelmush-open-spec 𝓤 H 𝓜 𝓖 𝓡 =
     walk 𝓤 H (𝓖 .A) (𝓜 .mem) (𝓡 .run) W 𝓣 κ q b o γ h n
     (cited 𝓤 H (Within 𝓤 H (𝓖 .A) (𝓜 .mem) (𝓡 .run)) 𝓜 𝓡 code.env #ranges·is-within within-def.routine code.calls-ranges·is-within
     (within-thm.met 𝓤 H 𝓜 𝓖 𝓡))
-    (cited 𝓤 H (Empty 𝓤 H (𝓖 .A) (𝓜 .mem) (𝓡 .run)) 𝓜 𝓡 code.env #planner·empty-table empty-def.routine code.calls-planner·empty-table
+    (cited 𝓤 H (Empty 𝓤 H (𝓖 .A) (𝓜 .mem) (𝓡 .run)) 𝓜 𝓡 code.env #opening·empty-table empty-def.routine code.calls-opening·empty-table
     (empty-thm.met 𝓤 H 𝓜 𝓖 𝓡))))

@@ -35,8 +35,8 @@ use Rattle.model.proofs.free_entry.Symbol.{name as #model·free-entry}
 use Rattle.model.proofs.free_entry.Met as free-thm
 use Rattle.rules.specs.Calls.{places, heldAnswer, withdrawn}
 use Rattle.rules.specs.WellFormed.{WellFormed}
-use Rattle.planner.specs.Changes.{put-past}
-use Rattle.planner.specs.Held.{held-answer, held-freed}
+use Rattle.places.specs.Put.{put-past}
+use Rattle.held.specs.Held.{held-answer, held-freed}
 use Rattle.host.proofs.Lent.{lent, loan, gone}
 use Rattle.host.proofs.Walk.{tests}
 use Rattle.host.proofs.Entries.{with-entry, typed-entry, entry-reached, entry-written}

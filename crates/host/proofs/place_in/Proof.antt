@@ -38,7 +38,7 @@ use Rattle.model.specs.Entries.{freeEntry, isStream}
 use Rattle.model.specs.declared.Table.{Table}
 use Rattle.model.proofs.Entry.Laws as N′
 use Rattle.model.proofs.Table as T
-use Rattle.amounts.proofs.Known.{inside, past}
+use Rattle.places.proofs.Known.{inside, past}
 use Rattle.survey.specs.Search.{isHeldAs, held-by-number, place-nobody}
 use Rattle.host.proofs.Lent.{lent, gone}
 use Rattle.host.proofs.Walk.{is-true, is-false, tests}

@@ -10,7 +10,7 @@ use Rattle.model.specs.declared.Entry.{Entry}
 use Rattle.rules.specs.Calls.{wordsOf, planOf}
 use Rattle.laws.specs.Ranks.{rank, rankMost}
 use Rattle.share.specs.Shares.{granted, sharingOf, grantOf, piece-found, extra-found}
-use Rattle.amounts.proofs.Known.{inside}
+use Rattle.places.proofs.Known.{inside}
 use Rattle.order.specs.Listed.{orderOf}
 use Rattle.order.specs.TiePlaces.{ranks-most}
 use Rattle.plan.specs.Rows.{Rows, rowPlan}

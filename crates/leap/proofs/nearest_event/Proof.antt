@@ -3,7 +3,7 @@ use Prim.Native.Nat.{_-_, _≤_}
 use native.Mathlib.Omega.{arith}
 use lib.ListN.{take}
 use borrow.Author.Needs.{needs}
-use Rattle.amounts.proofs.Known.{inside, past}
+use Rattle.places.proofs.Known.{inside, past}
 use Rattle.leap.specs.Leaps.{nearest, nearest-more, nearest-all}
 use Rattle.leap.proofs.nearest_event.Statement.{statement}
 use Rattle.leap.proofs.nearest_event.Tie as tie

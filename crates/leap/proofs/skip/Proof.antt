@@ -13,7 +13,8 @@ use Rattle.ahead.specs.Served.{later}
 use Rattle.ahead.specs.Leap.{later-free}
 use Rattle.share.specs.Queues.{queued-spare, takes-found}
 use Rattle.share.proofs.Known.{used-inside, used-rest}
-use Rattle.advance.specs.Next.{WithinAmounts, withEntries, unmoved, pieceOnly, pieces-within}
+use Rattle.places.specs.Put.{withEntries}
+use Rattle.advance.specs.Next.{WithinAmounts, unmoved, pieceOnly, pieces-within}
 use borrow.Author.Needs.{needs}
 use Rattle.leap.proofs.skip.Statement.{statement}
 use Rattle.leap.proofs.skip.Tie as tie

@@ -11,7 +11,7 @@ use Rattle.laws.specs.Places.{formed-tidy}
 use Rattle.share.specs.Queues.{Used, queued-bounded}
 use Rattle.share.specs.Shares.{sharesOf, shares-right}
 use Rattle.refusals.specs.Numbers.{beaconNumber}
-use Rattle.planner.specs.Changes.{stays-put, moves-on, none-beacon}
+use Rattle.planner.specs.Moves.{stays-put, moves-on, none-beacon}
 use borrow.Author.Needs.{needs}
 use Rattle.planner.proofs.plan_interval.Statement.{statement}
 use Rattle.planner.proofs.plan_interval.Tie as tie

@@ -9,7 +9,7 @@ use Rattle.model.specs.Requests.{refusal}
 use Rattle.rules.specs.Calls.{openAnswer, opened}
 use Rattle.rules.specs.WellFormed.{WellFormed}
 use Rattle.ahead.specs.Formed.{opened-formed}
-use Rattle.planner.specs.Numbers.{noTable}
+use Rattle.opening.specs.Tables.{noTable}
 use Rattle.shown.proofs.table_of.Statement.{statement}
 use Rattle.shown.proofs.table_of.Tie as tie
 

@@ -4,7 +4,7 @@ use native.Mathlib.Omega.{arith}
 use lib.ListN.{drop}
 use borrow.Author.Needs.{needs}
 use Rattle.lists.specs.First.{firstOf, first-found, first-passed, first-ended}
-use Rattle.amounts.proofs.Known.{inside, past}
+use Rattle.places.proofs.Known.{inside, past}
 use Rattle.survey.specs.Search.{isHeldAs}
 use Rattle.survey.proofs.place_of.Statement.{statement}
 use Rattle.survey.proofs.place_of.Tie as tie

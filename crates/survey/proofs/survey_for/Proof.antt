@@ -5,7 +5,7 @@ use native.Mathlib.Omega.{arith}
 use borrow.Author.Needs.{needs}
 use Rattle.lists.specs.All.{all-at}
 use Rattle.laws.specs.Closed.{mostSlots, load-most}
-use Rattle.amounts.proofs.Known.{inside, past}
+use Rattle.places.proofs.Known.{inside, past}
 use Rattle.amounts.specs.Amounts.{loadOf}
 use Rattle.survey.specs.Needed.{evenNeed}
 use Rattle.survey.specs.Search.{isFree}
