@@ -8,4 +8,3 @@ pub mod Serving
 pub mod Planned
 pub mod Keeps
 pub mod Proof
-pub mod Example

@@ -20,7 +20,7 @@ use Rattle.laws.specs.Closed.{slots-most}
 use Rattle.ahead.specs.Tables.{tidy-together}
 use Rattle.interval.specs.Jobs.{tie-sum, all-tie, jobs-keys}
 use Rattle.laws.specs.Ranks.{rank}
-use Rattle.share.specs.Queues.{Used, jobs-few}
+use Rattle.queue.specs.Queues.{Used, jobs-few}
 use Rattle.share.specs.Shares.{sharingOf, grantOf, grants-right}
 use Rattle.share.specs.declared.Sharing.{Sharing}
 use Rattle.order.specs.Filled.{filled, filled-behind, filled-all}

@@ -6,7 +6,7 @@ ghost use Prim.Native.Nat.{_+_, _*_, _≤_};
 ghost use lib.ListN.{length, drop};
 ghost use Rattle.rules.specs.Calls.{wordsOf, planOf};
 ghost use Rattle.laws.specs.Places.{Tidy};
-ghost use Rattle.share.specs.Queues.{Queued};
+ghost use Rattle.queue.specs.Queues.{Queued};
 ghost use Rattle.share.specs.Shares.{sharesOf};
 ghost use Rattle.jobs.specs.Needs.{needBy};
 use model::Entry;
@@ -14,7 +14,7 @@ use model::Slots;
 use model::Table;
 use order::Order;
 use share::Granted;
-use share::Queue;
+use queue::Queue;
 use share::Shares;
 
 // What each job of an entry needs, by what the entry gets.

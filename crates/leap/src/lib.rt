@@ -5,15 +5,15 @@ ghost use Rattle.rules.specs.Share.{capacity as capacityOf};
 ghost use Rattle.rules.specs.Calls.{heldOf};
 ghost use Rattle.laws.specs.Places.{Tidy};
 ghost use Rattle.ahead.specs.Served.{later, served};
-ghost use Rattle.share.specs.Queues.{Queued};
+ghost use Rattle.queue.specs.Queues.{Queued};
 ghost use Rattle.share.specs.Shares.{granted};
 ghost use Rattle.places.specs.Put.{withEntries};
-ghost use Rattle.advance.specs.Next.{WithinAmounts};
+ghost use Rattle.settle.specs.Next.{WithinAmounts};
 ghost use Rattle.leap.specs.Leaps.{eventAt, nearest, quietFor, leapt};
 use model::Entry;
 use model::Slots;
 use model::Table;
-use share::Queue;
+use queue::Queue;
 
 // No life and no period is longer.
 const LONGEST: u32 = 65535;

@@ -14,20 +14,20 @@ pub fn fits_ahead(t: Table) -> bool
 {
     let mut now = t;
     while !survey::fits_evenly(now) {
-        let q = share::queue_of(now);
+        let q = queue::queue_of(now);
         let interval = now.interval;
         if (interval.0 as u64) < q.load {
             return false;
         }
         let capacity = amounts::left_of(interval, q.load);
         let there = leap::leapt(now, q, capacity);
-        let r = share::queue_of(there);
+        let r = queue::queue_of(there);
         let used = r.used;
         let pieces = share::pieces(r, capacity);
-        if advance::misses(there, used, pieces) {
+        if trial::misses(there, used, pieces) {
             return false;
         }
-        let next = advance::advance_without_extras(there, used, pieces);
+        let next = trial::advance_without_extras(there, used, pieces);
         now = next;
     }
     true

@@ -19,7 +19,7 @@ use Rattle.rules.specs.Calls.{recordWords, mostRecords, wordsOf, planOf, advanc
 use Rattle.laws.specs.Settled.{after-free}
 use Rattle.laws.specs.Places.{Tidy}
 use Rattle.share.specs.declared.Shares.{Shares}
-use Rattle.share.specs.Queues.{Used}
+use Rattle.queue.specs.Queues.{Used}
 use Rattle.share.specs.Shares.{sharesOf}
 use Rattle.places.specs.Put.{withEntries}
 

@@ -50,7 +50,7 @@ pub fn plan_interval(t: Table, plan: &mut [u32]) -> Planned
     if plan.len() < 4096 {
         return unplanned(BeaconAnswer::PlanTooShort);
     }
-    let q = share::queue_of(t);
+    let q = queue::queue_of(t);
     if q.used == 0 {
         return unplanned(BeaconAnswer::Planned);
     }

@@ -1,3 +1,1 @@
-pub mod Zips
-pub mod Queues
 pub mod Shares

@@ -26,11 +26,11 @@ use Rattle.laws.specs.Settled.{headroom-fraction, headroom-whole, headroom-tran
 use Rattle.laws.specs.Closed.{takes, takes-owed, takes-held, by-kind, weight-places, extra-held}
 use Rattle.amounts.specs.Amounts.{limitOf, jobsIn}
 use Rattle.share.specs.declared.Granted.{Granted}
-use Rattle.share.specs.declared.Queue.{Queue}
+use Rattle.queue.specs.declared.Queue.{Queue}
 use Rattle.share.specs.declared.Sharing.{Sharing}
 use Rattle.share.specs.declared.Shares.{Shares}
-use Rattle.share.specs.Zips.{zip, zip-map}
-use Rattle.share.specs.Queues.{Queued, owedBelow, piecesOf, takes-found, below-all}
+use Rattle.queue.specs.Zips.{zip, zip-map}
+use Rattle.queue.specs.Queues.{Queued, owedBelow, piecesOf, takes-found, below-all}
 
 abbrev pub granted : (piece extra : ℕ) → Granted
 granted b c = record { piece = record { 0 = b }; extra = record { 0 = c } }

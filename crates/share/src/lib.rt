@@ -1,4 +1,4 @@
-// What each request gets of an interval: steps A to C of document 01, "One beacon", over a table's 32 places.
+// What each request gets of an interval: steps B and C of document 01, "One beacon", over a table's 32 places.
 // Nothing here sorts: what is owed at lower ranks is added up, place by place. The loops stop after the last place that is held.
 ghost use mathlib.Core.Bool.{cond};
 ghost use mathlib.Core.List.{map};
@@ -9,57 +9,12 @@ ghost use lib.ListN.{length, getD};
 ghost use Rattle.lists.specs.All.{All};
 ghost use Rattle.lists.specs.Spare.{Spare};
 ghost use Rattle.rules.specs.Share.{extra};
-ghost use Rattle.laws.specs.Places.{Tidy};
-ghost use Rattle.share.specs.Queues.{owedBelow, pieceOf, piecesOf, Queueing, Queued, Bounded};
+ghost use Rattle.queue.specs.Queues.{owedBelow, pieceOf, piecesOf, Queueing, Bounded};
 ghost use Rattle.share.specs.Shares.{roomsBy, weightBy, sharesBy};
-use model::Entry;
 use model::Slots;
-use model::Table;
+use queue::Queue;
 
-// A table read once: the load of step A, and steps B and C by numbers, place by place: a rank, what is owed there, what it may still get
-// before that, and its jobs. From place `used` on all are free.
-pub struct Queue {
-    pub used: usize,
-    pub load: u64,
-    pub ranks: [u64; 32],
-    pub owed: [u32; 32],
-    pub limits: [u32; 32],
-    pub jobs: [u32; 32],
-}
-
-// One loop finds all figures: each function that takes a table copies it first.
-pub fn queue_of(t: Table) -> Queue
-    requires { ⌜ Tidy t ⌝ }
-    ensures { λ r. ⌜ Queued t r ⌝ }
-{
-    let mut used: usize = 0;
-    let mut load: u64 = 0;
-    let mut ranks = [0u64; 32];
-    let mut owed = [0u32; 32];
-    let mut limits = [0u32; 32];
-    let mut jobs = [0u32; 32];
-    for i in 0..32 {
-        let e = t.entries[i];
-        let stream = e.stream;
-        if stream != 0 {
-            used = i + 1;
-            load = load + amounts::load_of(e);
-            ranks[i] = amounts::rank(e.left.0, e.kind, stream);
-            owed[i] = amounts::owed_of(e);
-            limits[i] = amounts::limit_of(e);
-            jobs[i] = amounts::job_count(e);
-        }
-    }
-    Queue {
-        used,
-        load,
-        ranks,
-        owed,
-        limits,
-        jobs,
-    }
-}
-
+// ---- B. kinds 2 and 3 take what they are owed
 fn owed_if_lower(owed: u32, rank: u64, own: u64) -> u32
     ensures { λ r. ⌜ r ≡ cond (ltb rank own) owed 0 ⌝ }
 {

@@ -7,12 +7,12 @@ use Rattle.model.specs.Entries.{freeEntry}
 use Rattle.model.specs.declared.Entry.{Entry}
 use Rattle.model.specs.declared.Table.{Table}
 use Rattle.laws.specs.Settled.{after-free}
-use Rattle.share.proofs.Known.{used-inside, used-rest}
+use Rattle.queue.proofs.Known.{used-inside, used-rest}
 use Prim.Native.Nat.{_-_, _≤_, _<_}
 use lib.ListN.{length, getD}
 use Rattle.share.specs.Shares.{sharingOf, grantOf, piece-found, extra-found}
 use Rattle.places.specs.Put.{withEntries}
-use Rattle.advance.specs.Next.{WithinAmounts, unmoved, afterGrant, advanced-places, grants-within}
+use Rattle.settle.specs.Next.{WithinAmounts, unmoved, afterGrant, advanced-places, grants-within}
 use borrow.Author.Needs.{needs}
 use Rattle.advance.proofs.advance.Statement.{statement}
 use Rattle.advance.proofs.advance.Tie as tie

@@ -11,10 +11,10 @@ use Rattle.model.specs.declared.Entry.{Entry}
 use Rattle.laws.specs.Closed.{takes}
 use Rattle.ahead.specs.Served.{later}
 use Rattle.ahead.specs.Leap.{later-free}
-use Rattle.share.specs.Queues.{queued-spare, takes-found}
-use Rattle.share.proofs.Known.{used-inside, used-rest}
+use Rattle.queue.specs.Queues.{queued-spare, takes-found}
+use Rattle.queue.proofs.Known.{used-inside, used-rest}
 use Rattle.places.specs.Put.{withEntries}
-use Rattle.advance.specs.Next.{WithinAmounts, unmoved, pieceOnly, pieces-within}
+use Rattle.settle.specs.Next.{WithinAmounts, unmoved, pieceOnly, pieces-within}
 use borrow.Author.Needs.{needs}
 use Rattle.leap.proofs.skip.Statement.{statement}
 use Rattle.leap.proofs.skip.Tie as tie

@@ -4,7 +4,7 @@ use Rattle.rules.specs.Share.{capacity}
 use Rattle.rules.specs.Calls.{heldOf}
 use Rattle.laws.specs.Places.{Tidy}
 use Rattle.ahead.specs.Moved.{lifeOf}
-use Rattle.share.specs.Queues.{Used, queued-spare}
+use Rattle.queue.specs.Queues.{Used, queued-spare}
 use Rattle.share.specs.Shares.{piecesIn, overfull-found, capacity-found, pieces-found}
 use Rattle.lookahead.specs.Turn.{ahead, stops-even, stops-full, there, stops-late, next-less, next-tidy, next-same}
 use borrow.Author.Needs.{needs}

@@ -3,7 +3,7 @@ use native.Mathlib.Omega.{arith}
 use denote.Ref.{now}
 use Rattle.rules.specs.Calls.{advanced, beacon}
 use Rattle.laws.specs.Places.{Tidy}
-use Rattle.share.specs.Queues.{Used}
+use Rattle.queue.specs.Queues.{Used}
 use Rattle.share.specs.Shares.{sharesOf}
 use borrow.Author.Needs.{needs}
 use Rattle.planner.proofs.beacon.Statement.{statement}

@@ -8,7 +8,7 @@ use denote.Ref.{now}
 use borrow.Author.Tests.{lt-ltb, le-ltb}
 use Rattle.rules.specs.Calls.{recordWords, mostRecords, wordsOf, planOf, beacon}
 use Rattle.laws.specs.Places.{formed-tidy}
-use Rattle.share.specs.Queues.{Used, queued-bounded}
+use Rattle.queue.specs.Queues.{Used, queued-bounded}
 use Rattle.share.specs.Shares.{sharesOf, shares-right}
 use Rattle.refusals.specs.Numbers.{beaconNumber}
 use Rattle.planner.specs.Moves.{stays-put, moves-on, none-beacon}

@@ -9,7 +9,7 @@ use denote.Ref.{now}
 use Rattle.lists.specs.Tests.{cond-zero}
 use Rattle.lists.specs.Loops.{summed, summed-more}
 use Rattle.lists.specs.Spare.{spare-sum}
-use Rattle.share.specs.Zips.{zip, length-zip, zip-at, zip-spare}
+use Rattle.queue.specs.Zips.{zip, length-zip, zip-at, zip-spare}
 use borrow.Author.Needs.{needs}
 use Rattle.share.proofs.owed_below.Statement.{statement}
 use Rattle.share.proofs.owed_below.Tie as tie

@@ -5,9 +5,9 @@ use Prim.Native.Nat.{ℕ, _-_}
 use native.Mathlib.Omega.{arith}
 use lib.ListN.{length}
 use Rattle.lists.specs.Spare.{Filling, filling-none, filling-more, filling-all}
-use Rattle.share.specs.Zips.{length-zip, zip-at, zip-spare}
-use Rattle.share.specs.Queues.{pieceOf, piecesOf}
-use Rattle.share.proofs.Known.{queue-32}
+use Rattle.queue.specs.Zips.{length-zip, zip-at, zip-spare}
+use Rattle.queue.specs.Queues.{pieceOf, piecesOf}
+use Rattle.queue.proofs.Known.{queue-32}
 use borrow.Author.Needs.{needs}
 use Rattle.share.proofs.pieces.Statement.{statement}
 use Rattle.share.proofs.pieces.Tie as tie

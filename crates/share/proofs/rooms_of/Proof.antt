@@ -9,7 +9,7 @@ use lib.ListN.{length, getD}
 use Rattle.lists.specs.All.{all-at}
 use Rattle.lists.specs.Loops.{summed, summed-more}
 use Rattle.lists.specs.Spare.{Spare, spare-sum, Filling, filling-none, filling-more, filling-all}
-use Rattle.share.specs.Zips.{zip, length-zip, zip-at, zip-spare}
+use Rattle.queue.specs.Zips.{zip, length-zip, zip-at, zip-spare}
 use Rattle.share.specs.Shares.{roomsBy}
 use borrow.Author.Needs.{needs}
 use Rattle.share.proofs.rooms_of.Statement.{statement}

@@ -5,10 +5,10 @@ use Prim.Native.Nat.{_-_}
 use native.Mathlib.Omega.{arith}
 use Rattle.lists.specs.Spare.{Spare}
 use Rattle.rules.specs.Share.{extra}
-use Rattle.share.specs.Zips.{zip-spare}
-use Rattle.share.specs.Queues.{piecesOf}
+use Rattle.queue.specs.Zips.{zip-spare}
+use Rattle.queue.specs.Queues.{piecesOf}
 use Rattle.share.specs.Shares.{roomsBy, weightBy}
-use Rattle.share.proofs.Known.{queue-32}
+use Rattle.queue.proofs.Known.{queue-32}
 use borrow.Author.Needs.{needs}
 use Rattle.share.proofs.shares_of.Statement.{statement}
 use Rattle.share.proofs.shares_of.Tie as tie

@@ -1,7 +1,7 @@
 use mathlib.Core.Path.{refl}
 use Rattle.rules.specs.Ahead.{renewed}
-use Rattle.advance.proofs.renewed.Statement.{statement}
-use Rattle.advance.proofs.renewed.Tie as tie
+use Rattle.settle.proofs.renewed.Statement.{statement}
+use Rattle.settle.proofs.renewed.Tie as tie
 
 returns : tie.Need-returns
 unfolding renewed

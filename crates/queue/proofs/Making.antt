@@ -22,8 +22,8 @@ use Rattle.laws.specs.Closed.{mostSlots, load-most}
 use Rattle.laws.specs.Ranks.{rank}
 use Rattle.amounts.specs.Amounts.{loadOf, owedTo, limitOf, jobsIn}
 use Rattle.places.proofs.Known.{inside, past, size}
-use Rattle.share.specs.declared.Queue.{Queue}
-use Rattle.share.specs.Queues.{Queued, free-place}
+use Rattle.queue.specs.declared.Queue.{Queue}
+use Rattle.queue.specs.Queues.{Queued, free-place}
 
 -- an array that the loop fills by the first i places: at a free one it has what it began with
 abbrev Read : (t : Table) (i : ℕ) (f : Entry → ℕ) → List ℕ → Type 0

@@ -27,8 +27,8 @@ use Rattle.laws.specs.Places.{Tidy}
 use Rattle.laws.specs.Closed.{takes, by-kind}
 use Rattle.laws.specs.Ranks.{rank, rank-sooner, held-ranked, held-rank}
 use Rattle.amounts.specs.Amounts.{owedTo, limitOf, jobsIn}
-use Rattle.share.specs.Zips.{zip, zip-map}
-use Rattle.share.specs.declared.Queue.{Queue}
+use Rattle.queue.specs.Zips.{zip, zip-map}
+use Rattle.queue.specs.declared.Queue.{Queue}
 
 -- from place n on all are free
 abbrev pub Used : ℕ → Table → Type 0

@@ -7,7 +7,7 @@ use Rattle.model.specs.Entries.{freeEntry}
 use Rattle.model.specs.declared.Entry.{Entry}
 use Rattle.model.specs.declared.Table.{Table}
 use Rattle.laws.specs.Settled.{after-free}
-use Rattle.share.proofs.Known.{used-inside, used-rest}
+use Rattle.queue.proofs.Known.{used-inside, used-rest}
 use Prim.Native.Nat.{_-_, _≤_, _<_}
 use lib.ListN.{length, getD}
 use Rattle.rules.specs.Share.{capacity}
@@ -15,10 +15,10 @@ use Rattle.rules.specs.Calls.{heldOf}
 use Rattle.laws.specs.Closed.{takes}
 use Rattle.share.specs.declared.Granted.{Granted}
 use Rattle.places.specs.Put.{withEntries}
-use Rattle.advance.specs.Next.{WithinAmounts, unmoved, afterGrant, pieceOnly, past-places, pieces-within}
+use Rattle.settle.specs.Next.{WithinAmounts, unmoved, afterGrant, pieceOnly, past-places, pieces-within}
 use borrow.Author.Needs.{needs}
-use Rattle.advance.proofs.advance_without_extras.Statement.{statement}
-use Rattle.advance.proofs.advance_without_extras.Tie as tie
+use Rattle.trial.proofs.advance_without_extras.Statement.{statement}
+use Rattle.trial.proofs.advance_without_extras.Tie as tie
 
 abbrev pieceIn : Table → Entry → Granted
 pieceIn t e = pieceOnly (capacity (t .interval .0) (heldOf t)) (t .entries) e

@@ -12,11 +12,11 @@ use Rattle.model.specs.declared.Table.{Table}
 use Rattle.rules.specs.Share.{capacity, stepB}
 use Rattle.rules.specs.Ahead.{misses}
 use Rattle.rules.specs.Calls.{heldOf}
-use Rattle.share.proofs.Known.{used-inside, used-rest}
-use Rattle.advance.specs.Next.{missesWith, missesBy, misses-places}
+use Rattle.queue.proofs.Known.{used-inside, used-rest}
+use Rattle.settle.specs.Next.{missesWith, missesBy, misses-places}
 use borrow.Author.Needs.{needs}
-use Rattle.advance.proofs.misses.Statement.{statement}
-use Rattle.advance.proofs.misses.Tie as tie
+use Rattle.trial.proofs.misses.Statement.{statement}
+use Rattle.trial.proofs.misses.Tie as tie
 
 abbrev missesIn : Table → Entry → Bool
 missesIn t e = missesBy (capacity (t .interval .0) (heldOf t)) (t .entries) e

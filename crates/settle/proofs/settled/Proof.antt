@@ -2,8 +2,8 @@ use mathlib.Core.Path.{_∙_}
 use borrow.Author.Tests.{ne-eqb}
 use borrow.Author.Needs.{needs}
 use Rattle.rules.specs.Ahead.{settled}
-use Rattle.advance.proofs.settled.Statement.{statement}
-use Rattle.advance.proofs.settled.Tie as tie
+use Rattle.settle.proofs.settled.Statement.{statement}
+use Rattle.settle.proofs.settled.Tie as tie
 
 free-entry-requires : tie.Need-free-entry-requires
 free-entry-requires c κs = search needs

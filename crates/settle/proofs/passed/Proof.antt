@@ -1,8 +1,8 @@
 use borrow.Author.Tests.{eq-eqb, ne-eqb}
 use borrow.Author.Needs.{needs}
 use Rattle.rules.specs.Ahead.{passed}
-use Rattle.advance.proofs.passed.Statement.{statement}
-use Rattle.advance.proofs.passed.Tie as tie
+use Rattle.settle.proofs.passed.Statement.{statement}
+use Rattle.settle.proofs.passed.Tie as tie
 
 less-requires : tie.Need-less-requires
 less-requires c κs = search needs

@@ -5,8 +5,8 @@ use borrow.Author.Tests.{eq-eqb, ne-eqb}
 use Rattle.lists.specs.Tests.{and-false}
 use Rattle.model.specs.Entries.{isPiece}
 use borrow.Author.Needs.{needs}
-use Rattle.advance.proofs.misses_deadline.Statement.{statement}
-use Rattle.advance.proofs.misses_deadline.Tie as tie
+use Rattle.settle.proofs.misses_deadline.Statement.{statement}
+use Rattle.settle.proofs.misses_deadline.Tie as tie
 
 returns : tie.Need-returns
 returns c =

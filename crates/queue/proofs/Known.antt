@@ -12,9 +12,9 @@ use Rattle.model.specs.Entries.{freeEntry}
 use Rattle.model.specs.declared.Table.{Table}
 use Rattle.model.proofs.Table as T
 use Rattle.places.proofs.Known.{inside}
-use Rattle.share.specs.declared.Queue.{Queue}
-use Rattle.share.specs.Queues.{Used}
-use Rattle.share.proofs.Queue as Q
+use Rattle.queue.specs.declared.Queue.{Queue}
+use Rattle.queue.specs.Queues.{Used}
+use Rattle.queue.proofs.Queue as Q
 
 pub queue-32 : (q : Queue) {vs : List Val} → Is Q.the-row q vs → (length (q .ranks) ≡ 32) × (length (q .owed) ≡ 32)
 queue-32 q p = (sym (length-map (q .ranks) _) ∙ p .1 .1 .1 .1 .0 .1 .0 .1, sym (length-map (q .owed) _) ∙ p .1 .1 .1 .1 .1 .0 .1 .0 .1)

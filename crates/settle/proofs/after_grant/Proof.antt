@@ -1,6 +1,6 @@
 use borrow.Author.Needs.{needs}
-use Rattle.advance.proofs.after_grant.Statement.{statement}
-use Rattle.advance.proofs.after_grant.Tie as tie
+use Rattle.settle.proofs.after_grant.Statement.{statement}
+use Rattle.settle.proofs.after_grant.Tie as tie
 
 passed-requires : tie.Need-passed-requires
 passed-requires c κs = search needs

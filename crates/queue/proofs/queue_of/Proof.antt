@@ -2,9 +2,9 @@ use mathlib.Core.Logic.{inl, inr}
 use Prim.Native.Nat.{_-_}
 use native.Mathlib.Omega.{arith}
 use borrow.Author.Needs.{needs}
-use Rattle.share.proofs.Making.{Making, queue, making-none, load-small, making-more, making-same, making-all}
-use Rattle.share.proofs.queue_of.Statement.{statement}
-use Rattle.share.proofs.queue_of.Tie as tie
+use Rattle.queue.proofs.Making.{Making, queue, making-none, load-small, making-more, making-same, making-all}
+use Rattle.queue.proofs.queue_of.Statement.{statement}
+use Rattle.queue.proofs.queue_of.Tie as tie
 
 abbrev Inv-loop : tie.InvT-loop
 Inv-loop t used₀ load₀ ranks₀ owed₀ limits₀ jobs₀ i₀ used load ranks owed limits jobs i =

@@ -1,0 +1,83 @@
+// One entry after an interval: step F of document 01, "One beacon"; and whether the interval misses its deadline.
+ghost use mathlib.Core.Path.{_≡_};
+ghost use Rattle.rules.specs.Ahead.{passed, renewed, settled};
+ghost use Rattle.settle.specs.Next.{WithinAmounts, afterGrant, missesWith};
+use model::Entry;
+use share::Granted;
+
+// Owed falls by its piece, given grows by its piece and its extra, life and intervals left fall by one; kind 1 has a life alone.
+// What was given stays within the amounts of the request, so it has 32 bits.
+fn passed(e: Entry, g: Granted) -> Entry
+    requires { ⌜ WithinAmounts g e ⌝ }
+    ensures { λ r. ⌜ r ≡ passed (g .piece .0) (g .extra .0) e ⌝ }
+{
+    let kind = e.kind;
+    let life_left = amounts::less(e.life_left.0, 1);
+    let mut next = e;
+    next.life_left.0 = life_left;
+    if kind == 1 {
+        next.owed.0 = 0;
+        next.given.0 = 0;
+        next.left.0 = 0;
+        return next;
+    }
+    let owed = amounts::less(e.owed.0, g.piece.0);
+    let given = e.given.0 + g.piece.0 + g.extra.0;
+    let left = amounts::less(e.left.0, 1);
+    next.owed.0 = owed;
+    next.given.0 = given;
+    next.left.0 = left;
+    next
+}
+
+// The next period begins.
+fn renewed(e: Entry) -> Entry
+    ensures { λ r. ⌜ r ≡ renewed e ⌝ }
+{
+    let owed = e.min;
+    let left = e.period;
+    let mut next = e;
+    next.owed = owed;
+    next.given.0 = 0;
+    next.left = left;
+    next
+}
+
+// An entry with life 0 leaves; a kind 2 entry with 0 intervals left begins its next period.
+fn settled(e: Entry) -> Entry
+    ensures { λ r. ⌜ r ≡ settled e ⌝ }
+{
+    let life = e.life_left.0;
+    if life == 0 {
+        return model::free_entry();
+    }
+    let kind = e.kind;
+    let left = e.left.0;
+    if kind == 2 {
+        if left == 0 {
+            return renewed(e);
+        }
+    }
+    e
+}
+
+pub fn after_grant(e: Entry, g: Granted) -> Entry
+    requires { ⌜ WithinAmounts g e ⌝ }
+    ensures { λ r. ⌜ r ≡ afterGrant g e ⌝ }
+{
+    settled(passed(e, g))
+}
+
+// Whether an entry's deadline is the end of this interval, and its piece is less than what it is owed.
+pub fn misses_deadline(e: Entry, piece: u32) -> bool
+    ensures { λ r. ⌜ r ≡ missesWith piece e ⌝ }
+{
+    let left = e.left.0;
+    if left != 1 {
+        return false;
+    }
+    if amounts::is_piece(e) {
+        return piece < e.owed.0;
+    }
+    false
+}
