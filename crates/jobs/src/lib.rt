@@ -13,8 +13,8 @@ use model::Entry;
 use model::Slots;
 use model::Table;
 use order::Order;
-use share::Granted;
 use queue::Queue;
+use share::Granted;
 use share::Shares;
 
 // What each job of an entry needs, by what the entry gets.
