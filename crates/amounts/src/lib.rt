@@ -1,43 +1,13 @@
-// Amounts of one entry of a table by document 01, "One beacon", steps A to C: its load, its rank, what it is owed, what it may still get
-// and its part of what remains.
+// Amounts of one entry of a table by document 01, "One beacon", steps A to C: its jobs, its load, its rank, what it is owed and what it
+// may still get.
 ghost use mathlib.Core.Path.{_≡_};
-ghost use Prim.Native.Nat.{_+_, _*_, _-_, min};
+ghost use Prim.Native.Nat.{_+_, _*_};
 ghost use Rattle.model.specs.Entries.{isPiece};
-ghost use Rattle.rules.specs.Share.{jobCount, extra};
+ghost use Rattle.rules.specs.Share.{jobCount};
 ghost use Rattle.rules.specs.Slots.{jobLength};
 ghost use Rattle.amounts.specs.Amounts.{loadOf, owedTo, limitOf};
 use model::Entry;
 use model::Slots;
-
-// a less b, and 0 where b is larger.
-pub fn less(a: u32, b: u32) -> u32
-    ensures { λ r. ⌜ r ≡ a - b ⌝ }
-{
-    if a <= b {
-        return 0;
-    }
-    a - b
-}
-
-pub fn smaller(a: u32, b: u32) -> u32
-    ensures { λ r. ⌜ r ≡ min a b ⌝ }
-{
-    if a < b {
-        return a;
-    }
-    b
-}
-
-// Slots less what is taken of them, and 0 where that is more.
-pub fn left_of(slots: Slots, taken: u64) -> Slots
-    ensures { λ r. ⌜ r .0 ≡ slots .0 - taken ⌝ }
-{
-    let all = slots.0 as u64;
-    if all <= taken {
-        return Slots(0);
-    }
-    Slots((all - taken) as u32)
-}
 
 // ---- the jobs of an entry in an interval: m for kind 1, one piece for the others
 pub fn job_count(e: Entry) -> u32
@@ -106,26 +76,10 @@ pub fn limit_of(e: Entry) -> u32
     let kind = e.kind;
     let most = e.max.0;
     if kind == 1 {
-        return less(most, e.min.0);
+        return slots::less(most, e.min.0);
     }
     if kind == 2 {
-        return less(most, e.given.0);
+        return slots::less(most, e.given.0);
     }
     0
-}
-
-// The part of what remains is no more than the headroom, so it has 32 bits as well.
-pub fn extra(remains: Slots, weight: u64, headroom: Slots) -> Slots
-    ensures { λ r. ⌜ r .0 ≡ extra (remains .0) weight (headroom .0) ⌝ }
-{
-    let rest = remains.0 as u64;
-    let room = headroom.0 as u64;
-    if rest == 0 {
-        return Slots(0);
-    }
-    if weight <= rest {
-        return headroom;
-    }
-    let part = room * rest / weight;
-    Slots(part as u32)
 }

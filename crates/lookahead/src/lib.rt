@@ -19,7 +19,7 @@ pub fn fits_ahead(t: Table) -> bool
         if (interval.0 as u64) < q.load {
             return false;
         }
-        let capacity = amounts::left_of(interval, q.load);
+        let capacity = slots::left_of(interval, q.load);
         let there = leap::leapt(now, q, capacity);
         let r = queue::queue_of(there);
         let used = r.used;

@@ -46,8 +46,8 @@ fn piece_at(ranks: &[u64], owed: &[u32], used: usize, capacity: Slots, i: usize)
     if own == 0 {
         return 0;
     }
-    let rest = amounts::left_of(capacity, owed_below(ranks, owed, used, ranks[i]));
-    amounts::smaller(own, rest.0)
+    let rest = slots::left_of(capacity, owed_below(ranks, owed, used, ranks[i]));
+    slots::smaller(own, rest.0)
 }
 
 // For a tidy table's queue these are the slots of step B, place by place: Queues.pieces-right.
@@ -88,7 +88,7 @@ fn rooms_of(used: usize, limits: &[u32; 32], jobs: &[u32; 32], pieces: &[u32; 32
     let mut rooms = [0u32; 32];
     let mut weight: u64 = 0;
     for i in 0..used {
-        let room = amounts::less(limits[i], pieces[i]);
+        let room = slots::less(limits[i], pieces[i]);
         rooms[i] = room;
         weight = weight + weight_of(jobs[i], room);
     }
@@ -109,7 +109,7 @@ fn extras_of(used: usize, rooms: [u32; 32], s: Sharing) -> [u32; 32]
     let remains = s.remains;
     let mut extras = [0u32; 32];
     for i in 0..used {
-        let x = amounts::extra(remains, s.weight, Slots(rooms[i]));
+        let x = slots::extra(remains, s.weight, Slots(rooms[i]));
         extras[i] = x.0;
     }
     extras
@@ -132,9 +132,9 @@ pub fn shares_of(interval: Slots, q: Queue) -> Shares
     let owed = q.owed;
     let limits = q.limits;
     let jobs = q.jobs;
-    let capacity = amounts::left_of(interval, q.load);
+    let capacity = slots::left_of(interval, q.load);
     let pieces = pieces(q, capacity);
-    let remains = amounts::left_of(capacity, owed_below(&ranks, &owed, used, u64::MAX));
+    let remains = slots::left_of(capacity, owed_below(&ranks, &owed, used, u64::MAX));
     let r = rooms_of(used, &limits, &jobs, &pieces);
     let rooms = r.rooms;
     let s = Sharing {

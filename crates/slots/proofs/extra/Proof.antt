@@ -4,8 +4,8 @@ use borrow.Author.Needs.{needs}
 use Rattle.model.proofs.Products.{product-fits}
 use Rattle.rules.specs.Share.{extra}
 use Rattle.laws.specs.Extras.{extra-le}
-use Rattle.amounts.proofs.extra.Statement.{statement}
-use Rattle.amounts.proofs.extra.Tie as tie
+use Rattle.slots.proofs.extra.Statement.{statement}
+use Rattle.slots.proofs.extra.Tie as tie
 
 cast-rest : tie.Need-cast-rest
 cast-rest c = search needs
