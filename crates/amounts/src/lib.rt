@@ -76,10 +76,10 @@ pub fn limit_of(e: Entry) -> u32
     let kind = e.kind;
     let most = e.max.0;
     if kind == 1 {
-        return slots::less(most, e.min.0);
+        return ranges::less(most, e.min.0);
     }
     if kind == 2 {
-        return slots::less(most, e.given.0);
+        return ranges::less(most, e.given.0);
     }
     0
 }

@@ -40,7 +40,7 @@ fn nearest_event(t: Table) -> u32
     let mut least = LONGEST;
     for i in 0..32 {
         let e = t.entries[i];
-        least = slots::smaller(event_in(e), least);
+        least = ranges::smaller(event_in(e), least);
     }
     least
 }
@@ -49,12 +49,12 @@ fn nearest_event(t: Table) -> u32
 fn quiet(t: Table, capacity: Slots) -> u32
     ensures { λ r. ⌜ r ≡ quietFor (capacity .0) (t .entries) ⌝ }
 {
-    let n = slots::less(nearest_event(t), 1);
+    let n = ranges::less(nearest_event(t), 1);
     let slots = capacity.0;
     if slots == 0 {
         return n;
     }
-    slots::smaller(n, SLOTS_LARGEST / slots)
+    ranges::smaller(n, SLOTS_LARGEST / slots)
 }
 
 // An entry n intervals on, with its piece of them all.
@@ -62,10 +62,10 @@ fn later(e: Entry, n: u32, piece: Slots) -> Entry
     requires { ⌜ WithinAmounts (granted (piece .0) 0) e ⌝ }
     ensures { λ r. ⌜ r ≡ later n (piece .0) e ⌝ }
 {
-    let life_left = slots::less(e.life_left.0, n);
-    let owed = slots::less(e.owed.0, piece.0);
+    let life_left = ranges::less(e.life_left.0, n);
+    let owed = ranges::less(e.owed.0, piece.0);
     let given = e.given.0 + piece.0;
-    let left = slots::less(e.left.0, n);
+    let left = ranges::less(e.left.0, n);
     let mut next = e;
     next.life_left.0 = life_left;
     next.owed.0 = owed;

@@ -4,7 +4,7 @@
 // change where it ends. A turn ends a job, or comes to a release or to the end: there are at most 993 of them (specs/Turns.antt).
 ghost use mathlib.Core.Path.{_≡_};
 ghost use mathlib.Core.List.{[], _∷_, _++_, map};
-ghost use Prim.Native.Nat.{_+_, _*_, _≤_, _<_, min};
+ghost use Prim.Native.Nat.{_+_, _*_, _≤_, _<_};
 ghost use lib.ListN.{length, drop, getD, set, replicate};
 ghost use Rattle.lists.specs.All.{All};
 ghost use Rattle.rules.specs.Slots.{run};
@@ -28,12 +28,6 @@ struct Pen {
     length: u32,
 }
 
-fn smaller(a: u32, b: u32) -> u32
-    ensures { λ r. ⌜ r ≡ min a b ⌝ }
-{
-    if a <= b { a } else { b }
-}
-
 // The first release after t of any row's jobs; at most b, the end. Rows as long as the interval release none before it.
 fn next_release(b: u32, rows: usize, lengths: &[u32; 32], t: u32) -> u32
     requires { ⌜ (t < b) × ((b ≤ 1024000) × All (Length b) (now lengths)) ⌝ }
@@ -44,7 +38,7 @@ fn next_release(b: u32, rows: usize, lengths: &[u32; 32], t: u32) -> u32
     for i in 0..rows {
         let length = lengths[i];
         let release = (t / length + 1) * length;
-        next = smaller(next, release);
+        next = ranges::smaller(next, release);
     }
     next
 }
@@ -258,7 +252,7 @@ pub fn write_plan(
         if i < 32 {
             let j = heads[i];
             let need = left[i][j];
-            let n = smaller(need, next - t);
+            let n = ranges::smaller(need, next - t);
             left[i][j] = need - n;
             if need == n {
                 heads[i] = first_left(left[i]);

@@ -1,7 +1,7 @@
-// Tests and quotients of numbers of 32 bits, for any numbers.
+// Tests, differences and quotients of numbers of 32 bits, for any numbers.
 ghost use mathlib.Core.Bool.{_&&_};
 ghost use mathlib.Core.Path.{_≡_};
-ghost use Prim.Native.Nat.{_/_, _%_};
+ghost use Prim.Native.Nat.{_-_, _/_, _%_, min};
 ghost use lib.Dec.{eqb};
 ghost use Rattle.lists.specs.Lists.{within};
 
@@ -12,6 +12,25 @@ pub fn is_within(least: u32, largest: u32, x: u32) -> bool
         return false;
     }
     x <= largest
+}
+
+// a less b, and 0 where b is larger.
+pub fn less(a: u32, b: u32) -> u32
+    ensures { λ r. ⌜ r ≡ a - b ⌝ }
+{
+    if b < a {
+        return a - b;
+    }
+    0
+}
+
+pub fn smaller(a: u32, b: u32) -> u32
+    ensures { λ r. ⌜ r ≡ min a b ⌝ }
+{
+    if a < b {
+        return a;
+    }
+    b
 }
 
 // One m-th of n, and 0 where m is 0.

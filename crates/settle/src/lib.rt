@@ -12,7 +12,7 @@ fn passed(e: Entry, g: Granted) -> Entry
     ensures { λ r. ⌜ r ≡ passed (g .piece .0) (g .extra .0) e ⌝ }
 {
     let kind = e.kind;
-    let life_left = slots::less(e.life_left.0, 1);
+    let life_left = ranges::less(e.life_left.0, 1);
     let mut next = e;
     next.life_left.0 = life_left;
     if kind == 1 {
@@ -21,9 +21,9 @@ fn passed(e: Entry, g: Granted) -> Entry
         next.left.0 = 0;
         return next;
     }
-    let owed = slots::less(e.owed.0, g.piece.0);
+    let owed = ranges::less(e.owed.0, g.piece.0);
     let given = e.given.0 + g.piece.0 + g.extra.0;
-    let left = slots::less(e.left.0, 1);
+    let left = ranges::less(e.left.0, 1);
     next.owed.0 = owed;
     next.given.0 = given;
     next.left.0 = left;

@@ -47,7 +47,7 @@ fn piece_at(ranks: &[u64], owed: &[u32], used: usize, capacity: Slots, i: usize)
         return 0;
     }
     let rest = slots::left_of(capacity, owed_below(ranks, owed, used, ranks[i]));
-    slots::smaller(own, rest.0)
+    ranges::smaller(own, rest.0)
 }
 
 // For a tidy table's queue these are the slots of step B, place by place: Queues.pieces-right.
@@ -88,7 +88,7 @@ fn rooms_of(used: usize, limits: &[u32; 32], jobs: &[u32; 32], pieces: &[u32; 32
     let mut rooms = [0u32; 32];
     let mut weight: u64 = 0;
     for i in 0..used {
-        let room = slots::less(limits[i], pieces[i]);
+        let room = ranges::less(limits[i], pieces[i]);
         rooms[i] = room;
         weight = weight + weight_of(jobs[i], room);
     }

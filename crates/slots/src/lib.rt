@@ -1,27 +1,8 @@
 // Numbers of slots: what is left of some, and a part of what remains by document 01, "One beacon", step C.
 ghost use mathlib.Core.Path.{_≡_};
-ghost use Prim.Native.Nat.{_-_, min};
+ghost use Prim.Native.Nat.{_-_};
 ghost use Rattle.rules.specs.Share.{extra};
 use model::Slots;
-
-// a less b, and 0 where b is larger.
-pub fn less(a: u32, b: u32) -> u32
-    ensures { λ r. ⌜ r ≡ a - b ⌝ }
-{
-    if a <= b {
-        return 0;
-    }
-    a - b
-}
-
-pub fn smaller(a: u32, b: u32) -> u32
-    ensures { λ r. ⌜ r ≡ min a b ⌝ }
-{
-    if a < b {
-        return a;
-    }
-    b
-}
 
 // Slots less what is taken of them, and 0 where that is more.
 pub fn left_of(slots: Slots, taken: u64) -> Slots
