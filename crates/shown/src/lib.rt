@@ -11,8 +11,8 @@ ghost use Rattle.refusals.specs.Numbers.{openNumber, beaconNumber};
 ghost use Rattle.opening.specs.Tables.{noTable};
 ghost use Rattle.admission.specs.Six.{request};
 use model::Table;
-use planner::Beaconing;
 use opening::Opening;
+use planner::Beaconing;
 
 pub fn open(units: u32) -> Opening
     ensures { λ r. ⌜ (openNumber (r .answer) ≡ openAnswer units) × (r .table ≡ cond (eqb (openAnswer units) 0) (opened units) noTable) ⌝ }
