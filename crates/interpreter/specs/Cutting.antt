@@ -12,7 +12,7 @@ use Rattle.commands.specs.Commands.{commandOf}
 use Rattle.commands.specs.declared.Command.{Command}
 use Rattle.commands.specs.declared.Command.the-variants.{OtherForm}
 use Rattle.interpreter.specs.declared.Shelf.{Shelf}
-use Rattle.answers.specs.Meaning.{firstState, planAfter, rowsFor}
+use Rattle.meaning.specs.Meaning.{firstState, planAfter, rowsFor}
 
 unfoldable pub firstShelf : Shelf
 firstShelf = record { reader = atStart; state = firstState }

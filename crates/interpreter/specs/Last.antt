@@ -11,8 +11,8 @@ use Rattle.text.specs.Rows.{cr, lf}
 use Rattle.rows.specs.declared.Reader.{Reader}
 use Rattle.rows.specs.Lines.{unheld, endsRow, afterByte, linesIn}
 use Rattle.printing.specs.Printed.{written}
-use Rattle.answers.specs.Meaning.{printed}
-use Rattle.answers.specs.Room.{answerMost}
+use Rattle.meaning.specs.Meaning.{printed}
+use Rattle.meaning.specs.Room.{answerMost}
 use Rattle.interpreter.specs.declared.Shelf.{Shelf}
 use Rattle.interpreter.specs.Cutting.{lastRows, lastPlan}
 use Rattle.interpreter.specs.Whole.{planRun, chunkRows, chunkPlan}

@@ -2,5 +2,4 @@ pub mod Cutting
 pub mod Sizes
 pub mod Whole
 pub mod Parts
-pub mod Turns
 pub mod Last

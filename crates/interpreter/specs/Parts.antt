@@ -13,11 +13,11 @@ use Rattle.rows.specs.Cuts.{row-ended, row-open}
 use Rattle.commands.specs.declared.Command.{Command}
 use Rattle.printing.specs.PrintedLaws.{Wrote, wrote, wrote-then, written-none}
 use Rattle.printing.specs.Printed.{written}
-use Rattle.answers.specs.declared.State.{State}
+use Rattle.meaning.specs.declared.State.{State}
 use Rattle.interpreter.specs.declared.Shelf.{Shelf}
 use Rattle.interpreter.specs.declared.Served.{Served}
-use Rattle.answers.specs.Meaning.{stateAfter, planAfter, rowsFor, printed}
-use Rattle.answers.specs.Room.{answerMost}
+use Rattle.meaning.specs.Meaning.{stateAfter, planAfter, rowsFor, printed}
+use Rattle.meaning.specs.Room.{answerMost}
 use Rattle.interpreter.specs.Cutting.{commandIn, cutOf, commandAt}
 use Rattle.interpreter.specs.Sizes.{cut-taken}
 use Rattle.interpreter.specs.Whole.{stateRun, planRun, chunkRows, chunkPlan, shelfAfter, rows-append, after-both, plan-both}

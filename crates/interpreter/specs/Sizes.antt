@@ -9,8 +9,8 @@ use lib.ListN.{length}
 use Rattle.lists.specs.Tests.{either}
 use Rattle.rows.specs.Lines.{unheld}
 use Rattle.rows.specs.Cuts.{row-ended, row-open}
-use Rattle.answers.specs.Room.{answerMost, Ready}
-use Rattle.answers.specs.Sizes.{rows-most}
+use Rattle.meaning.specs.Room.{answerMost, Ready}
+use Rattle.meaning.specs.Sizes.{rows-most}
 use Rattle.interpreter.specs.declared.Shelf.{Shelf}
 use Rattle.interpreter.specs.Cutting.{commandIn, cutOf, lastRows}
 

@@ -18,9 +18,9 @@ use Rattle.commands.specs.Commands.{commandOf}
 use Rattle.commands.specs.declared.Command.{Command}
 use Rattle.commands.specs.declared.Command.the-variants.{OtherForm}
 use Rattle.printing.specs.Printed.{headerRow}
-use Rattle.answers.specs.declared.State.{State}
+use Rattle.meaning.specs.declared.State.{State}
 use Rattle.interpreter.specs.declared.Shelf.{Shelf}
-use Rattle.answers.specs.Meaning.{firstState, stateAfter, planAfter, rowsFor, printed, outputOf}
+use Rattle.meaning.specs.Meaning.{firstState, stateAfter, planAfter, rowsFor, printed, outputOf}
 use Rattle.interpreter.specs.Cutting.{firstShelf, commandIn, lastRows}
 
 -- ---- a chunk

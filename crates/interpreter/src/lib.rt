@@ -4,12 +4,12 @@ ghost use mathlib.Core.Path.{_≡_};
 ghost use Prim.Native.Nat.{_+_, _≤_};
 ghost use lib.ListN.{length, take};
 ghost use Rattle.printing.specs.Printed.{written};
-ghost use Rattle.answers.specs.Room.{planWords, answerMost, stateOf, Ready};
+ghost use Rattle.meaning.specs.Room.{planWords, answerMost, stateOf, Ready};
 ghost use Rattle.interpreter.specs.Cutting.{firstShelf, commandIn, lastRows, lastPlan};
 ghost use Rattle.interpreter.specs.Whole.{chunkRows, chunkPlan, shelfAfter};
 ghost use Rattle.interpreter.specs.Parts.{servedTo};
-use answers::State;
 use commands::Command;
+use meaning::State;
 use model::Table;
 use rows::Line;
 use rows::Reader;
@@ -101,7 +101,7 @@ pub fn serve_rows(s: Shelf, chunk: &[u8], plan: &mut [u32], out: &mut [u8], at: 
                     }
                 }
                 Command::Offer(q) => {
-                    let p = answers::answer_offer(ready, table, q, out, next);
+                    let p = offering::answer_offer(ready, table, q, out, next);
                     next = p.at;
                     let place = p.place;
                     if place < 32 {
@@ -110,7 +110,7 @@ pub fn serve_rows(s: Shelf, chunk: &[u8], plan: &mut [u32], out: &mut [u8], at: 
                     }
                 }
                 Command::Withdraw(stream) => {
-                    let p = answers::answer_withdraw(ready, table, stream, out, next);
+                    let p = withdrawing::answer_withdraw(ready, table, stream, out, next);
                     next = p.at;
                     let place = p.place;
                     if place < 32 {
@@ -119,7 +119,7 @@ pub fn serve_rows(s: Shelf, chunk: &[u8], plan: &mut [u32], out: &mut [u8], at: 
                     }
                 }
                 Command::Beacon => {
-                    let b = answers::answer_beacon(ready, table, plan, out, next);
+                    let b = beaconing::answer_beacon(ready, table, plan, out, next);
                     next = b.at;
                     if 0 < b.used {
                         let shares = b.shares;

@@ -2,7 +2,7 @@
 // printing". What it does with each byte is in crate interpreter; here are the reads and writes.
 ghost use Prim.Native.Nat.{_≤_};
 ghost use lib.ListN.{length};
-ghost use Rattle.answers.specs.Room.{planWords, answerMost, Ready};
+ghost use Rattle.meaning.specs.Room.{planWords, answerMost, Ready};
 use interpreter::Shelf;
 
 struct Flow {

@@ -3,10 +3,10 @@ use mathlib.Core.Path.{_≡_, refl, sym, subst}
 use Rattle.model.specs.Requests.{refusal}
 use Rattle.rules.specs.Calls.{openAnswer}
 use Rattle.interpreter.specs.declared.Shelf.{Shelf}
-use Rattle.answers.specs.Meaning.{firstState}
-use Rattle.answers.specs.Room.{Ready}
+use Rattle.meaning.specs.Meaning.{firstState}
+use Rattle.meaning.specs.Room.{Ready}
 use Rattle.interpreter.specs.Cutting.{firstShelf}
-use Rattle.answers.specs.Ready.{ready-first}
+use Rattle.meaning.specs.Ready.{ready-first}
 use borrow.Author.Needs.{needs}
 use Rattle.interpreter.proofs.first_shelf.Statement.{statement}
 use Rattle.interpreter.proofs.first_shelf.Tie as tie

@@ -1,30 +1,19 @@
--- A beacon in enough memory: what it gives, and the rows of its records. Assumes nothing.
-use mathlib.Core.Path.{_≡_, refl, sym, subst, ap, ap₂, _∙_}
-use mathlib.Core.List.{List, [], _∷_, _++_}
+-- What a beacon gives in enough memory. Assumes nothing.
+use mathlib.Core.Path.{_≡_, sym, subst, ap, ap₂, _∙_}
+use mathlib.Core.List.{List}
 use Prim.Native.Nat.{ℕ, _≤_}
-use borrow.Author.Tests.{le-ltb}
 use lib.ListN.{length}
 use Rattle.lists.specs.Lists.{concatMap}
 use Rattle.model.specs.declared.Table.{Table}
-use Rattle.rules.specs.Slots.{Run}
-use Rattle.rules.specs.Calls.{mostRecords, wordsOf, planOf, advanced, Beacon, beacon, plannedBeacon}
+use Rattle.rules.specs.Calls.{mostRecords, planOf, advanced, Beacon, beacon}
 use Rattle.rules.specs.WellFormed.{WellFormed}
 use Rattle.interval.specs.Plan.{plan-right}
 use Rattle.share.specs.declared.Shares.{Shares}
 use Rattle.planner.specs.Moves.{Moves}
 use Rattle.printing.specs.Printed.{slotRows}
-use Rattle.answers.specs.Meaning.{slotRowOf}
-use Rattle.answers.specs.Room.{planWords}
-
-pub planned : (t : Table) (ws : List ℕ) → planWords ≤ length ws → beacon t ws ≡ plannedBeacon t ws (planOf t)
-unfolding beacon
-planned t ws h = rw (le-ltb (length ws) planWords h) refl
-
--- the words of a plan, whatever stands behind them
-pub rows-of-words : (rs : List Run) (ws : List ℕ) → slotRows (length rs) (wordsOf rs ++ ws) ≡ concatMap slotRowOf rs
-unfolding slotRows wordsOf
-rows-of-words [] ws = refl
-rows-of-words (r ∷ rs) ws = ap (λ l. slotRowOf r ++ l) (rows-of-words rs ws)
+use Rattle.meaning.specs.Meaning.{slotRowOf}
+use Rattle.meaning.specs.Room.{planWords}
+use Rattle.meaning.specs.Plans.{planned, rows-of-words}
 
 -- what a call gives that meets the contract of planning an interval
 pub record Made (t : Table) (ws : List ℕ) (answer count used : ℕ) (shares : Shares) (words : List ℕ) : Type 0 where

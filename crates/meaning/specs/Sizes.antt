@@ -13,10 +13,10 @@ use Rattle.commands.specs.Commands.{openVerb, offerVerb, withdrawVerb, beaconVe
 use Rattle.commands.specs.declared.Command.{Command}
 use Rattle.commands.specs.declared.Command.the-variants.{Open, Offer, Withdraw, Beacon, OtherForm}
 use Rattle.printing.specs.PrintedLaws.{plain-row-most, stream-row-most, slot-rows-most}
-use Rattle.answers.specs.declared.State.{State}
-use Rattle.answers.specs.Meaning.{answerWith, rowVerb, planRows, rowsFor}
-use Rattle.answers.specs.Room.{answerMost, Ready}
-use Rattle.answers.specs.Beacons.{rows-of-words}
+use Rattle.meaning.specs.declared.State.{State}
+use Rattle.meaning.specs.Meaning.{answerWith, rowVerb, planRows, rowsFor}
+use Rattle.meaning.specs.Room.{answerMost, Ready}
+use Rattle.meaning.specs.Plans.{rows-of-words}
 
 plan-most : (s : State) → Ready s → length (planRows s) ≤ 52224
 plan-most s r = ⊎-elim held none (either (s .ready))

@@ -16,10 +16,10 @@ use Rattle.rules.specs.WellFormed.{WellFormed}
 use Rattle.ahead.specs.Formed.{opened-formed, offered-formed, withdrawn-formed, beacon-formed}
 use Rattle.commands.specs.declared.Command.{Command}
 use Rattle.commands.specs.declared.Command.the-variants.{Open, Offer, Withdraw, Beacon as Beacon-row, OtherForm}
-use Rattle.answers.specs.declared.State.{State}
-use Rattle.answers.specs.Meaning.{firstState, stateAfter}
-use Rattle.answers.specs.Room.{planWords, Ready}
-use Rattle.answers.specs.Beacons.{planned}
+use Rattle.meaning.specs.declared.State.{State}
+use Rattle.meaning.specs.Meaning.{firstState, stateAfter}
+use Rattle.meaning.specs.Room.{planWords, Ready}
+use Rattle.meaning.specs.Plans.{planned}
 
 either-ready : (b : Bool) {s u : State} → (b ≡ true → Ready s) → Ready u → Ready (cond b s u)
 either-ready true f g = f refl

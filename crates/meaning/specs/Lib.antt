@@ -1,5 +1,5 @@
 pub mod Meaning
 pub mod Room
-pub mod Beacons
+pub mod Plans
 pub mod Ready
 pub mod Sizes

@@ -7,11 +7,11 @@ use Rattle.commands.specs.Commands.{beaconVerb}
 use Rattle.refusals.specs.Numbers.{beaconNumber}
 use Rattle.planner.specs.Moves.{stays-put}
 use Rattle.printing.specs.PrintedLaws.{wrote, wrote-then, contract, plain-row-most}
-use Rattle.answers.specs.Meaning.{stateAfter, planAfter, rowsFor}
-use Rattle.answers.specs.Beacons.{Made, made}
+use Rattle.meaning.specs.Meaning.{stateAfter, planAfter, rowsFor}
+use Rattle.beaconing.specs.Beacons.{Made, made}
 use borrow.Author.Needs.{needs}
-use Rattle.answers.proofs.answer_beacon.Statement.{statement}
-use Rattle.answers.proofs.answer_beacon.Tie as tie
+use Rattle.beaconing.proofs.answer_beacon.Statement.{statement}
+use Rattle.beaconing.proofs.answer_beacon.Tie as tie
 
 no-table-requires : tie.Need-no-table-requires
 no-table-requires c κs = search needs

@@ -14,7 +14,7 @@ use Rattle.commands.specs.Commands.{openVerb, offerVerb, withdrawVerb, beaconVe
 use Rattle.commands.specs.declared.Command.{Command}
 use Rattle.commands.specs.declared.Command.the-variants.{Open, Offer, Withdraw, Beacon, OtherForm}
 use Rattle.printing.specs.Printed.{headerRow, plainRow, streamRow, slotRow}
-use Rattle.answers.specs.declared.State.{State}
+use Rattle.meaning.specs.declared.State.{State}
 
 -- before a successful `open` there is no table
 unfoldable pub firstState : State
