@@ -16,8 +16,8 @@ use Rattle.meaning.specs.Ready.{ready-after}
 use Rattle.meaning.specs.Sizes.{rows-most}
 use Rattle.meaning.specs.Meaning.{withTable, stateAfter, planAfter, rowsFor}
 use Rattle.beaconing.specs.Turns.{moved-on, stayed}
-use Rattle.interpreter.specs.declared.Shelf.{Shelf}
-use Rattle.interpreter.specs.Parts.{Done, shelfOf, done-none, done-open, done-row, cut-some}
+use Rattle.session.specs.declared.Shelf.{Shelf}
+use Rattle.session.specs.Parts.{Done, shelfOf, done-none, done-open, done-row, cut-some}
 use Rattle.interpreter.proofs.serve_rows.Statement.{statement}
 use Rattle.interpreter.proofs.serve_rows.Tie as tie
 

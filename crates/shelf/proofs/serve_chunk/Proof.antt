@@ -5,7 +5,7 @@ use denote.Ref.{now}
 use lib.ListN.{length}
 use borrow.Author.Needs.{needs}
 use Rattle.meaning.specs.Room.{answerMost, Ready}
-use Rattle.interpreter.specs.Parts.{part-some}
+use Rattle.session.specs.Parts.{part-some}
 use Rattle.shelf.proofs.serve_chunk.Statement.{statement}
 use Rattle.shelf.proofs.serve_chunk.Tie as tie
 

@@ -2,14 +2,14 @@ use mathlib.Core.Bool.{false}
 use mathlib.Core.Path.{_≡_, refl, sym, subst}
 use Rattle.model.specs.Requests.{refusal}
 use Rattle.rules.specs.Calls.{openAnswer}
-use Rattle.interpreter.specs.declared.Shelf.{Shelf}
+use Rattle.session.specs.declared.Shelf.{Shelf}
 use Rattle.meaning.specs.Meaning.{firstState}
 use Rattle.meaning.specs.Room.{Ready}
-use Rattle.interpreter.specs.Cutting.{firstShelf}
+use Rattle.session.specs.Cutting.{firstShelf}
 use Rattle.meaning.specs.Ready.{ready-first}
 use borrow.Author.Needs.{needs}
-use Rattle.interpreter.proofs.first_shelf.Statement.{statement}
-use Rattle.interpreter.proofs.first_shelf.Tie as tie
+use Rattle.session.proofs.first_shelf.Statement.{statement}
+use Rattle.session.proofs.first_shelf.Tie as tie
 
 open-requires : tie.Need-open-requires
 open-requires c κs = search needs

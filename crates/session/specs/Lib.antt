@@ -2,4 +2,3 @@ pub mod Cutting
 pub mod Sizes
 pub mod Whole
 pub mod Parts
-pub mod Last

@@ -7,11 +7,11 @@ use borrow.Author.Tests.{eq-eqb, ne-eqb}
 use Rattle.rows.specs.Lines.{unheld}
 use Rattle.rows.specs.declared.Line.{Line}
 use Rattle.printing.specs.PrintedLaws.{written-none}
-use Rattle.interpreter.specs.Cutting.{lastRows, lastPlan}
-use Rattle.interpreter.specs.Last.{last-served}
+use Rattle.session.specs.Cutting.{lastRows, lastPlan}
+use Rattle.ending.specs.Last.{last-served}
 use borrow.Author.Needs.{needs}
-use Rattle.interpreter.proofs.finish.Statement.{statement}
-use Rattle.interpreter.proofs.finish.Tie as tie
+use Rattle.ending.proofs.finish.Statement.{statement}
+use Rattle.ending.proofs.finish.Tie as tie
 
 unheld-requires : tie.Need-unheld-requires
 unheld-requires c κs = search needs

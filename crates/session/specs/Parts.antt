@@ -14,13 +14,13 @@ use Rattle.commands.specs.declared.Command.{Command}
 use Rattle.printing.specs.PrintedLaws.{Wrote, wrote, wrote-then, written-none}
 use Rattle.printing.specs.Printed.{written}
 use Rattle.meaning.specs.declared.State.{State}
-use Rattle.interpreter.specs.declared.Shelf.{Shelf}
-use Rattle.interpreter.specs.declared.Served.{Served}
+use Rattle.session.specs.declared.Shelf.{Shelf}
+use Rattle.session.specs.declared.Served.{Served}
 use Rattle.meaning.specs.Meaning.{stateAfter, planAfter, rowsFor, printed}
 use Rattle.meaning.specs.Room.{answerMost}
-use Rattle.interpreter.specs.Cutting.{commandIn, cutOf, commandAt}
-use Rattle.interpreter.specs.Sizes.{cut-taken}
-use Rattle.interpreter.specs.Whole.{stateRun, planRun, chunkRows, chunkPlan, shelfAfter, rows-append, after-both, plan-both}
+use Rattle.session.specs.Cutting.{commandIn, cutOf, commandAt}
+use Rattle.session.specs.Sizes.{cut-taken}
+use Rattle.session.specs.Whole.{stateRun, planRun, chunkRows, chunkPlan, shelfAfter, rows-append, after-both, plan-both}
 
 abbrev pub shelfOf : Reader → State → Shelf
 shelfOf r s = record { reader = r; state = s }

@@ -19,9 +19,9 @@ use Rattle.commands.specs.declared.Command.{Command}
 use Rattle.commands.specs.declared.Command.the-variants.{OtherForm}
 use Rattle.printing.specs.Printed.{headerRow}
 use Rattle.meaning.specs.declared.State.{State}
-use Rattle.interpreter.specs.declared.Shelf.{Shelf}
+use Rattle.session.specs.declared.Shelf.{Shelf}
 use Rattle.meaning.specs.Meaning.{firstState, stateAfter, planAfter, rowsFor, printed, outputOf}
-use Rattle.interpreter.specs.Cutting.{firstShelf, commandIn, lastRows}
+use Rattle.session.specs.Cutting.{firstShelf, commandIn, lastRows}
 
 -- ---- a chunk
 unfoldable pub stateRun : State → List Command → State

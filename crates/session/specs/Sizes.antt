@@ -11,8 +11,8 @@ use Rattle.rows.specs.Lines.{unheld}
 use Rattle.rows.specs.Cuts.{row-ended, row-open}
 use Rattle.meaning.specs.Room.{answerMost, Ready}
 use Rattle.meaning.specs.Sizes.{rows-most}
-use Rattle.interpreter.specs.declared.Shelf.{Shelf}
-use Rattle.interpreter.specs.Cutting.{commandIn, cutOf, lastRows}
+use Rattle.session.specs.declared.Shelf.{Shelf}
+use Rattle.session.specs.Cutting.{commandIn, cutOf, lastRows}
 
 pub cut-taken : (s : Shelf) (chunk : List ℕ) → (cutOf s chunk .taken ≤ length chunk) × (0 < length chunk → 0 < cutOf s chunk .taken)
 cut-taken s chunk =

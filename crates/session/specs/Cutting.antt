@@ -11,7 +11,7 @@ use Rattle.rows.specs.Kept.{textOf}
 use Rattle.commands.specs.Commands.{commandOf}
 use Rattle.commands.specs.declared.Command.{Command}
 use Rattle.commands.specs.declared.Command.the-variants.{OtherForm}
-use Rattle.interpreter.specs.declared.Shelf.{Shelf}
+use Rattle.session.specs.declared.Shelf.{Shelf}
 use Rattle.meaning.specs.Meaning.{firstState, planAfter, rowsFor}
 
 unfoldable pub firstShelf : Shelf

@@ -13,9 +13,9 @@ use Rattle.rows.specs.Lines.{unheld, endsRow, afterByte, linesIn}
 use Rattle.printing.specs.Printed.{written}
 use Rattle.meaning.specs.Meaning.{printed}
 use Rattle.meaning.specs.Room.{answerMost}
-use Rattle.interpreter.specs.declared.Shelf.{Shelf}
-use Rattle.interpreter.specs.Cutting.{lastRows, lastPlan}
-use Rattle.interpreter.specs.Whole.{planRun, chunkRows, chunkPlan}
+use Rattle.session.specs.declared.Shelf.{Shelf}
+use Rattle.session.specs.Cutting.{lastRows, lastPlan}
+use Rattle.session.specs.Whole.{planRun, chunkRows, chunkPlan}
 
 abbrev pub rowEnd : List ℕ
 rowEnd = cr ∷ lf ∷ []
