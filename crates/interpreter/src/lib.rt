@@ -1,49 +1,23 @@
 // Rows of text in, rows of text out: each row that is read is a call of the planner, whose answer is printed. What stands between two
-// rows, and between two chunks of the input, is a struct by value.
+// rows, and between two chunks of the input, is a struct by value, see crate between.
 ghost use mathlib.Core.Path.{_≡_};
 ghost use Prim.Native.Nat.{_+_, _≤_};
 ghost use lib.ListN.{length, take};
 ghost use Rattle.printing.specs.Printed.{written};
-ghost use Rattle.answers.specs.Room.{planWords, answerMost, stateOf, Ready};
-ghost use Rattle.interpreter.specs.Cutting.{firstShelf, commandIn, lastRows, lastPlan};
-ghost use Rattle.interpreter.specs.Whole.{chunkRows, chunkPlan, shelfAfter};
-ghost use Rattle.interpreter.specs.Parts.{servedTo};
-use answers::State;
+ghost use Rattle.meaning.specs.Room.{planWords, answerMost, stateOf, Ready};
+ghost use Rattle.between.specs.Cutting.{commandIn};
+ghost use Rattle.between.specs.Whole.{chunkRows, chunkPlan, shelfAfter};
+ghost use Rattle.between.specs.Parts.{servedTo};
+use between::Served;
+use between::Shelf;
 use commands::Command;
+use meaning::State;
 use model::Table;
 use rows::Line;
 use rows::Reader;
 
-// Between two chunks: the row that has begun, and the state.
-pub struct Shelf {
-    pub reader: Reader,
-    pub state: State,
-}
-
-// How many bytes of the chunk are done with, and the place after the rows that were printed.
-pub struct Served {
-    pub shelf: Shelf,
-    pub taken: usize,
-    pub at: usize,
-}
-
 // The most bytes of the rows of one answer: a row of the call and 1,024 rows of records.
 pub const ANSWER_MOST: usize = 53248;
-
-// ---- rows of the input
-pub fn first_shelf() -> Shelf
-    ensures is { λ r. ⌜ r ≡ firstShelf ⌝ }
-    ensures formed { λ r. ⌜ Ready (r .state) ⌝ }
-{
-    let none = opening::open(0);
-    let table = none.table;
-    let reader = rows::at_start();
-    let state = State {
-        ready: false,
-        table,
-    };
-    Shelf { reader, state }
-}
 
 fn command_in(line: Line) -> Command
     ensures { λ c. ⌜ c ≡ commandIn line ⌝ }
@@ -101,7 +75,7 @@ pub fn serve_rows(s: Shelf, chunk: &[u8], plan: &mut [u32], out: &mut [u8], at: 
                     }
                 }
                 Command::Offer(q) => {
-                    let p = answers::answer_offer(ready, table, q, out, next);
+                    let p = offering::answer_offer(ready, table, q, out, next);
                     next = p.at;
                     let place = p.place;
                     if place < 32 {
@@ -110,7 +84,7 @@ pub fn serve_rows(s: Shelf, chunk: &[u8], plan: &mut [u32], out: &mut [u8], at: 
                     }
                 }
                 Command::Withdraw(stream) => {
-                    let p = answers::answer_withdraw(ready, table, stream, out, next);
+                    let p = withdrawing::answer_withdraw(ready, table, stream, out, next);
                     next = p.at;
                     let place = p.place;
                     if place < 32 {
@@ -119,7 +93,7 @@ pub fn serve_rows(s: Shelf, chunk: &[u8], plan: &mut [u32], out: &mut [u8], at: 
                     }
                 }
                 Command::Beacon => {
-                    let b = answers::answer_beacon(ready, table, plan, out, next);
+                    let b = beaconing::answer_beacon(ready, table, plan, out, next);
                     next = b.at;
                     if 0 < b.used {
                         let shares = b.shares;
@@ -131,20 +105,4 @@ pub fn serve_rows(s: Shelf, chunk: &[u8], plan: &mut [u32], out: &mut [u8], at: 
         }
     }
     served_to(reader, ready, table, taken, next)
-}
-
-// At the end of the input: the answer to the last row, where that has a byte and no CR LF.
-pub fn finish(s: Shelf, plan: &mut [u32], out: &mut [u8], at: usize) -> usize
-    requires { ⌜ Ready (s .state) ⌝ }
-    requires { ⌜ planWords ≤ length (now plan) ⌝ }
-    requires { ⌜ at + answerMost ≤ length (now out) ⌝ }
-    ensures { λ r. let rows = lastRows s in
-        ⌜ (r ≡ at + length rows) × ((now (out .exit) ≡ written (now (out .entry)) at rows)
-        × (now (plan .exit) ≡ lastPlan s (now (plan .entry)))) ⌝ }
-{
-    let line = rows::unheld(s.reader);
-    if line.len == 0 {
-        return at;
-    }
-    serve_rows(s, b"\r\n", plan, out, at).at
 }

@@ -2,8 +2,8 @@
 // printing". What it does with each byte is in crate interpreter; here are the reads and writes.
 ghost use Prim.Native.Nat.{_≤_};
 ghost use lib.ListN.{length};
-ghost use Rattle.answers.specs.Room.{planWords, answerMost, Ready};
-use interpreter::Shelf;
+ghost use Rattle.meaning.specs.Room.{planWords, answerMost, Ready};
+use between::Shelf;
 
 struct Flow {
     shelf: Shelf,
@@ -62,7 +62,7 @@ fn serve_some(s: Shelf, input: &mut [u8], plan: &mut [u32], out: &mut [u8]) -> F
         };
     }
     if got == 0 {
-        let at = interpreter::finish(s, plan, out, 0);
+        let at = ending::finish(s, plan, out, 0);
         put(out, at);
         return Flow {
             shelf: s,
@@ -78,7 +78,7 @@ fn serve_all(input: &mut [u8], plan: &mut [u32], out: &mut [u8])
     requires { ⌜ planWords ≤ length (now plan) ⌝ }
     requires { ⌜ answerMost ≤ length (now out) ⌝ }
 {
-    let mut shelf = interpreter::first_shelf();
+    let mut shelf = between::first_shelf();
     let mut turns = u64::MAX;
     while turns > 0 {
         let flow = serve_some(shelf, input, plan, out);

@@ -5,7 +5,7 @@ use Rattle.text.specs.Rows.{rowMost}
 use native.Mathlib.Omega.{arith}
 use borrow.Author.Tests.{le-leb, lt-leb}
 use lib.ListN.{length-take}
-use Rattle.interpreter.specs.Cutting.{commandIn}
+use Rattle.between.specs.Cutting.{commandIn}
 use Rattle.rows.proofs.Known.{row-64}
 use borrow.Author.Needs.{needs}
 use Rattle.interpreter.proofs.command_in.Statement.{statement}

@@ -10,14 +10,14 @@ use borrow.Author.Needs.{needs}
 use Rattle.commands.specs.declared.Command.{Command}
 use Rattle.commands.specs.declared.Command.the-variants.{Offer, Withdraw}
 use Rattle.printing.specs.Printed.{written}
-use Rattle.answers.specs.declared.State.{State}
-use Rattle.answers.specs.Room.{answerMost, stateOf, Ready}
-use Rattle.answers.specs.Ready.{ready-after}
-use Rattle.answers.specs.Sizes.{rows-most}
-use Rattle.answers.specs.Meaning.{withTable, stateAfter, planAfter, rowsFor}
-use Rattle.interpreter.specs.declared.Shelf.{Shelf}
-use Rattle.interpreter.specs.Parts.{Done, shelfOf, done-none, done-open, done-row, cut-some}
-use Rattle.interpreter.specs.Turns.{put-none, moved-on, stayed}
+use Rattle.meaning.specs.declared.State.{State}
+use Rattle.meaning.specs.Room.{answerMost, stateOf, Ready, put-none}
+use Rattle.meaning.specs.Ready.{ready-after}
+use Rattle.meaning.specs.Sizes.{rows-most}
+use Rattle.meaning.specs.Meaning.{withTable, stateAfter, planAfter, rowsFor}
+use Rattle.beaconing.specs.Turns.{moved-on, stayed}
+use Rattle.between.specs.declared.Shelf.{Shelf}
+use Rattle.between.specs.Parts.{Done, shelfOf, done-none, done-open, done-row, cut-some}
 use Rattle.interpreter.proofs.serve_rows.Statement.{statement}
 use Rattle.interpreter.proofs.serve_rows.Tie as tie
 

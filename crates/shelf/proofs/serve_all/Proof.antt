@@ -1,7 +1,7 @@
 use mathlib.Core.Path.{_≡_, refl, _∙_}
 use native.Mathlib.Omega.{arith}
 use lib.ListN.{length}
-use Rattle.answers.specs.Room.{Ready}
+use Rattle.meaning.specs.Room.{Ready}
 use borrow.Author.Needs.{needs}
 use Rattle.shelf.proofs.serve_all.Statement.{statement}
 use Rattle.shelf.proofs.serve_all.Tie as tie

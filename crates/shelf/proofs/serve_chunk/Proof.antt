@@ -4,8 +4,8 @@ use native.Mathlib.Omega.{arith}
 use denote.Ref.{now}
 use lib.ListN.{length}
 use borrow.Author.Needs.{needs}
-use Rattle.answers.specs.Room.{answerMost, Ready}
-use Rattle.interpreter.specs.Parts.{part-some}
+use Rattle.meaning.specs.Room.{answerMost, Ready}
+use Rattle.between.specs.Parts.{part-some}
 use Rattle.shelf.proofs.serve_chunk.Statement.{statement}
 use Rattle.shelf.proofs.serve_chunk.Tie as tie
 

@@ -1,5 +1,5 @@
 use native.Mathlib.Omega.{arith}
-use Rattle.interpreter.specs.Sizes.{last-most}
+use Rattle.between.specs.Sizes.{last-most}
 use borrow.Author.Needs.{needs}
 use Rattle.shelf.proofs.serve_some.Statement.{statement}
 use Rattle.shelf.proofs.serve_some.Tie as tie

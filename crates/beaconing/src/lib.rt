@@ -1,0 +1,68 @@
+// A row that is a beacon: the call, and the rows of its answer in lent memory.
+ghost use mathlib.Core.Path.{_≡_};
+ghost use Prim.Native.Nat.{_+_, _≤_};
+ghost use lib.ListN.{length};
+ghost use Rattle.planner.specs.Moves.{Moves};
+ghost use Rattle.commands.specs.Commands.{beaconVerb};
+ghost use Rattle.commands.specs.declared.Command.the-variants.{Beacon};
+ghost use Rattle.printing.specs.Printed.{plainRow, written};
+ghost use Rattle.meaning.specs.Meaning.{stateAfter, planAfter, rowsFor};
+ghost use Rattle.meaning.specs.Room.{planWords, answerMost, stateOf, Ready};
+use model::Table;
+use share::Shares;
+
+// The place after its rows, and what moves the table on: the shares of the places in use. Where none is in use the table stays.
+pub struct Beaconing {
+    pub at: usize,
+    pub used: usize,
+    pub shares: Shares,
+}
+
+// Where there is no table, there is none to move on.
+fn no_table(out: &mut [u8], at: usize) -> Beaconing
+    requires { ⌜ at + answerMost ≤ length (now out) ⌝ }
+    ensures { λ r. let bs = plainRow beaconVerb 51 in
+        ⌜ (r .used ≡ 0) × ((r .at ≡ at + length bs) × (now (out .exit) ≡ written (now (out .entry)) at bs)) ⌝ }
+{
+    let next = printing::plain_row(out, at, b"beacon", 51);
+    let shares = Shares {
+        pieces: [0; 32],
+        extras: [0; 32],
+    };
+    Beaconing {
+        at: next,
+        used: 0,
+        shares,
+    }
+}
+
+// The plan is in lent memory, and each of its records has a row.
+pub fn answer_beacon(
+    ready: bool,
+    t: Table,
+    plan: &mut [u32],
+    out: &mut [u8],
+    at: usize,
+) -> Beaconing
+    requires { ⌜ Ready (stateOf ready t) ⌝ }
+    requires { ⌜ planWords ≤ length (now plan) ⌝ }
+    requires { ⌜ at + answerMost ≤ length (now out) ⌝ }
+    ensures { λ r. let s = stateOf ready t in let bs = rowsFor s Beacon in
+        ⌜ Moves t (r .used) (r .shares) (stateAfter s Beacon .table) × ((r .at ≡ at + length bs)
+        × ((now (out .exit) ≡ written (now (out .entry)) at bs) × (now (plan .exit) ≡ planAfter s Beacon (now (plan .entry))))) ⌝ }
+{
+    if !ready {
+        return no_table(out, at);
+    }
+    let p = planner::plan_interval(t, plan);
+    let answer = p.answer;
+    let number = refusals::beacon_number(answer);
+    let after_call = printing::plain_row(out, at, b"beacon", number);
+    let next = records::slot_rows(out, after_call, plan, p.count);
+    let shares = p.shares;
+    Beaconing {
+        at: next,
+        used: p.used,
+        shares,
+    }
+}

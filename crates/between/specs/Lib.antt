@@ -1,0 +1,4 @@
+pub mod Cutting
+pub mod Sizes
+pub mod Whole
+pub mod Parts

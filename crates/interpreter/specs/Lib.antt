@@ -1,6 +1,0 @@
-pub mod Cutting
-pub mod Sizes
-pub mod Whole
-pub mod Parts
-pub mod Turns
-pub mod Last

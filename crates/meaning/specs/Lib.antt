@@ -1,0 +1,5 @@
+pub mod Meaning
+pub mod Room
+pub mod Plans
+pub mod Ready
+pub mod Sizes
