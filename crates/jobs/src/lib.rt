@@ -12,7 +12,6 @@ ghost use Rattle.jobs.specs.Needs.{needBy};
 use model::Entry;
 use model::Slots;
 use model::Table;
-use order::Order;
 use queue::Queue;
 use share::Granted;
 use share::Shares;
