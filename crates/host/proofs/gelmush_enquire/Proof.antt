@@ -16,9 +16,8 @@ use ghost.Atoms.{Atoms}
 use contract.Monad.{Fun}
 use contract.Running.{givenOf, tables, tablesOf}
 use types.Kit.{Given, ‵, raw, ⋆, _$_, _∵_, !, qed, by, move}
-use types.Run.{look, init, stop, from, load, lit, of-opd, bin, and-then, no-more, assigns, land}
-use types.Run.{returns, returns-within, enter, alloc1, alloc0, params1, pass1, pass0, free1, free0}
-use types.Part.{agg}
+use types.Run.{lit, of-opd, bin, and-then, no-more, returns, returns-within, params1, pass1, pass0}
+use types.Part.{agg, look-in}
 use types.Tokens.{res-dup, shr-bor-dup}
 use sound.WpLaws.{fmOf}
 use denote.Laws.{Is}
@@ -41,7 +40,8 @@ use Rattle.held.specs.Held.{held-answer, held-entry, none-entry}
 use Rattle.host.specs.declared.Found.{Found}
 use Rattle.host.proofs.Found as F
 use Rattle.host.proofs.Found.Laws as F′
-use Rattle.host.proofs.Lent.{lent, Typed, gone}
+use Rattle.host.proofs.Lent.{lent, Typed}
+use Rattle.host.proofs.Locals.{cell, enters, freed, keeps, value, sets, receives}
 use Rattle.host.proofs.Walk.{tests}
 use Rattle.host.proofs.Entries.{at-place, IsEntry, typed-entry, entry-reached, entry-read}
 use Rattle.host.proofs.Looked.{look as loan, Post, exits, look-meets, look-opens, look-shuts}
@@ -92,51 +92,39 @@ module _ {M : Type 1} (𝓤 : URA M) (H : Heap 𝓤) (A : Atoms 𝓤) (at-mem : 
         exits 𝓤 F.the-row (Formed 𝓤) Says H A W κ q b o γ h n fits (LL.makes F.the-type F′.the-plain 𝓤 H A) (found a e) (foundVal a e) so
         (is-found a e f is)
 
-    -- In the comments on contexts, _n is the cell of the n-th local, or room for it, and …n is what frees it.
     walk : ent 𝓤 (⋆ 𝓤 H A (‵ (fres γ (lent h)) ∷ ‵ (loan κ h b o) ∷ ‵ (flft κ q) ∷ raw (Formed 𝓤 h n) ∷ []))
         (WpFn 𝓤 H (𝓣 .C) (𝓣 .Λ) code.function (vptr b o ∷ vint w32 n ∷ []) Ends)
     walk =
         qed W (‵ (fres γ (lent h)) ∷ ‵ (loan κ h b o) ∷ ‵ (flft κ q) ∷ raw (Formed 𝓤 h n) ∷ []) ∵
         move ! (3 ∷ []) $ heard ! (WellFormed h) (λ formed. res-dup ! $ move ! (2 ∷ []) $ shr-bor-dup ! $
-        enter ! (𝓣 .C) (𝓣 .Λ) code.function (vptr b o ∷ vint w32 n ∷ []) _ $
-        alloc1 ! (λ l₀. alloc1 ! (λ l₁. alloc1 ! (λ l₂. alloc1 ! (λ l₃. alloc1 ! (λ l₄. alloc1 ! (λ l₅. alloc1 ! (λ l₆. alloc1 ! (λ l₇.
-        alloc1 ! (λ l₈. alloc1 ! (λ l₉. alloc1 ! (λ l₁₀. alloc0 ! $ params1 ! $
-        pass1 ! (init ! 18 refl (tt, tt)) $ pass1 ! (init ! 16 refl (tt, record { fits = fits })) $ pass0 ! $
-        -- [_10; …10; _9; …9; _8; …8; _7; …7; _6; …6; _5; …5; _4; …4; _3; …3; _2; …2; _1; …1; _0; …0; the loan twice; res twice; the token]
-        move ! (24 ∷ 22 ∷ 26 ∷ []) $ searches at-mem run ! (fmOf 𝓤 H (W .laws) 𝓣) search b o h n fits
-        (and-then ! (load ! (from ! (stop !)) (look ! 19 refl)) (and-then ! (load ! (from ! (stop !)) (look ! 17 refl)) (no-more !)))
+        enters ! (𝓣 .C) (𝓣 .Λ) code.function (vptr b o ∷ vint w32 n ∷ []) _ (λ l₀ l₁ l₂ l₃ l₄ l₅ l₆ l₇ l₈ l₉ l₁₀. params1 ! $
+        pass1 ! (keeps ! 0 1 refl tt (tt, tt)) $ pass1 ! (keeps ! 0 2 refl tt (tt, record { fits = fits })) $ pass0 ! $
+        -- [the locals; the loan twice; res twice; the token]
+        move ! (3 ∷ 1 ∷ 5 ∷ []) $ searches at-mem run ! (fmOf 𝓤 H (W .laws) 𝓣) search b o h n fits
+        (and-then ! (value ! 1 refl refl) (and-then ! (value ! 1 refl refl) (no-more !)))
         (λ p e f.
-        -- [the token; _10; …10; …; _0; …0; the loan; res]
-        land ! (from ! (stop !)) (init ! 15 refl (tt, record { fits = f })) $
-        assigns ! (bin ! (load ! (from ! (stop !)) (look ! 15 refl)) (lit ! tt) tt) (from ! (stop !)) (init ! 9 refl (tt, tt)) $
-        tests ! (load ! (from ! (stop !)) (look ! 9 refl))
+        -- [the token; the locals; the loan; res]
+        receives ! 1 refl tt (tt, record { fits = f }) $ sets ! 1 refl tt (bin ! (value ! 1 refl refl) (lit ! tt) tt) (tt, tt) $
+        tests ! (value ! 1 refl refl)
         (λ on.
-        move ! (23 ∷ 0 ∷ []) $ look-opens h b o ! tt (λ s vs was.
-        -- [the table; the open loan; the loan; _10; …10; _9; …9; …; _0; …0; res]
-        move ! (21 ∷ 17 ∷ 9 ∷ 7 ∷ 5 ∷ []) $ entry-reached b o p ! (ltb→lt p 32 on) refl refl refl refl refl $
-        -- [_1; _3; _7; _8; _9; the table; the open loan; the loan; _10; …]
-        move ! (5 ∷ 4 ∷ 8 ∷ []) $ entry-read b o p ! (ltb→lt p 32 on) refl refl s h (λ is.
-        -- [the table; _9; _10; _1; _3; _7; _8; the open loan; the loan; …10; …9; …8; …7; _6; …6; _5; …5; _4; …4; …3; _2; …2; …1; _0; …0;
-        -- res]
-        assigns ! (of-opd ! (load ! (from ! (stop !)) (look ! 2 refl))) (from ! (stop !))
-        (init ! 17 refl (typed-entry 𝓤 H A W (at-place h p) is)) $
-        assigns ! (agg ! (and-then ! (lit ! tt) (and-then ! (load ! (from ! (stop !)) (look ! 17 refl)) (no-more !)))) (from ! (stop !))
-        (init ! 23 refl (typed-found 𝓤 H A W 0 (at-place h p) (lit< tt) is)) $
-        move ! (0 ∷ 7 ∷ []) $ look-shuts h b o ! tt s $
-        -- [the token; _9; _10; _1; _3; _7; _8; the loan; …10; …9; …8; …7; _6; …6; _5; …5; _4; …4; …3; _2; …2; …1; _0; …0; res]
-        returns-within ! Ends refl (look ! 22 refl) $
-        move ! (22 ∷ 23 ∷ 3 ∷ 21 ∷ 19 ∷ 20 ∷ 4 ∷ 18 ∷ 16 ∷ 17 ∷ 14 ∷ 15 ∷ 12 ∷ 13 ∷ 5 ∷ 11 ∷ 6 ∷ 10 ∷ 1 ∷ 9 ∷ 2 ∷ 8 ∷ []) $
-        gone ! $ gone ! $ gone ! $ gone ! $ gone ! $ free1 ! $ gone ! $ gone ! $ gone ! $ gone ! $ gone ! $ free0 ! $
-        move ! (2 ∷ 1 ∷ 0 ∷ []) $ by ! (ends 0 (at-place h p) (lit< tt) is (shows h n formed p e (ltb→lt p 32 on))))))
+        move ! (2 ∷ 0 ∷ []) $ look-opens h b o ! tt (λ s vs was. move ! (0 ∷ 3 ∷ []) $
+        -- [the table; the locals; the open loan; the loan; res]
+        entry-reached b o p ! (ltb→lt p 32 on) (refl, refl, refl, tt, tt, tt, refl, refl, refl, refl) $
+        entry-read b o p ! (ltb→lt p 32 on) refl tt refl s h (λ is.
+        sets ! 1 refl tt (of-opd ! (value ! 1 refl refl)) (typed-entry 𝓤 H A W (at-place h p) is) $
+        sets ! 1 refl tt (agg ! (and-then ! (lit ! tt) (and-then ! (value ! 1 refl refl) (no-more !))))
+        (typed-found 𝓤 H A W 0 (at-place h p) (lit< tt) is) $
+        move ! (0 ∷ 2 ∷ []) $ look-shuts h b o ! tt s $
+        -- [the token; the locals; the loan; res]
+        returns-within ! Ends refl (look-in ! 1 (cell ! 0 refl)) $ move ! (1 ∷ 3 ∷ 2 ∷ []) $ freed ! $
+        by ! (ends 0 (at-place h p) (lit< tt) is (shows h n formed p e (ltb→lt p 32 on))))))
         (λ off.
         frees-entry at-mem run ! (fmOf 𝓤 H (W .laws) 𝓣) free (no-more !) (λ is.
-        land ! (from ! (stop !)) (init ! 11 refl (typed-entry 𝓤 H A W freeEntry is)) $
-        assigns ! (agg ! (and-then ! (lit ! tt) (and-then ! (load ! (from ! (stop !)) (look ! 11 refl)) (no-more !)))) (from ! (stop !))
-        (init ! 21 refl (typed-found 𝓤 H A W 20 freeEntry (lit< tt) is)) $
-        returns ! (look ! 21 refl) $
-        move ! (21 ∷ 22 ∷ 19 ∷ 20 ∷ 17 ∷ 18 ∷ 15 ∷ 16 ∷ 13 ∷ 14 ∷ 11 ∷ 12 ∷ 9 ∷ 10 ∷ 7 ∷ 8 ∷ 5 ∷ 6 ∷ 3 ∷ 4 ∷ 1 ∷ 2 ∷ []) $
-        gone ! $ gone ! $ gone ! $ gone ! $ free1 ! $ gone ! $ gone ! $ free1 ! $ free1 ! $ free1 ! $ free1 ! $ free0 ! $
-        move ! (2 ∷ 1 ∷ 0 ∷ []) $ by ! (ends 20 freeEntry (lit< tt) is (misses h n formed p e (nltb→le p 32 off))))))))))))))))))
+        receives ! 1 refl tt (typed-entry 𝓤 H A W freeEntry is) $
+        sets ! 1 refl tt (agg ! (and-then ! (lit ! tt) (and-then ! (value ! 1 refl refl) (no-more !))))
+        (typed-found 𝓤 H A W 20 freeEntry (lit< tt) is) $
+        returns ! (look-in ! 1 (cell ! 0 refl)) $ move ! (1 ∷ 3 ∷ 2 ∷ []) $ freed ! $
+        by ! (ends 20 freeEntry (lit< tt) is (misses h n formed p e (nltb→le p 32 off))))))))
 
 pub gelmush-enquire-spec : {M : Type 1} → stated.statement M
 unfolding code.routine tablesOf

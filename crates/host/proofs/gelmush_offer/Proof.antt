@@ -17,9 +17,8 @@ use contract.Monad.{Fun, fact}
 use contract.Running.{givenOf, tables, tablesOf}
 use types.Kit.{Given, ‵, raw, mean, _⊛_, ⋆, _$_, _∵_, !, qed, by, move, keep, drop, use0, split, join}
 use types.Kit.{fsplit, fsplit3, fjoin, fjoin3, feqI, suffices, frame, done}
-use types.Run.{look, init, stop, fld, from, load, of-opd, and-then, no-more, assigns, land, returns, enter}
-use types.Run.{alloc1, alloc0, params1, pass1, pass0, free1, free0}
-use types.Part.{agg, whole, sub, look-in}
+use types.Run.{stop, fld, from, load, of-opd, and-then, no-more, returns, params1, pass1, pass0}
+use types.Part.{agg, sub, look-in}
 use types.Mut.{open-ref, close-ref}
 use sound.WpLaws.{fmOf, WpFn-mono}
 use denote.RattleType.{RattleType, owns}
@@ -63,7 +62,8 @@ use Rattle.admission.proofs.decide.Met as decide-thm
 use Rattle.refusals.proofs.offer_number.Symbol as number-def
 use Rattle.refusals.proofs.offer_number.Symbol.{name as #refusals·offer-number}
 use Rattle.refusals.proofs.offer_number.Met as number-thm
-use Rattle.host.proofs.Lent.{machine, IsTable, Lent, number, gone, table-copied, table-closes}
+use Rattle.host.proofs.Lent.{machine, IsTable, Lent, number, table-copied, table-closes}
+use Rattle.host.proofs.Locals.{cell, enters, freed, keeps, value, sets, receives}
 use Rattle.host.proofs.Walk.{Gives, gives, calls-value}
 use Rattle.host.proofs.Entries.{with-entry, entry-put}
 use Rattle.host.proofs.Answers.{Numbers, calls-number}
@@ -171,7 +171,6 @@ module _ {M : Type 1} (𝓤 : URA M) (H : Heap 𝓤) (A : Atoms 𝓤) (at-mem : 
         gives 𝓤 H A W D.the-row Done w (ensured 𝓤 H A decide.ended (decide.clauses 𝓤 H A at-mem run) tt (h, (n, tt)) tt)
         (λ d. exE 𝓤 _ (λ ws. snd∗ 𝓤 (sem 𝓤 H A (lasts decide.ended tt (h, (n, tt)) ws)) (fact 𝓤 (Done d))))
 
-    -- In the comments on contexts, _n is the cell of the n-th local, or room for it, and …n is what frees it.
     walk : (𝓣 : Tables 𝓤 H) → Triple 𝓤 (𝓣 .C #admission·decide) Decide → Triple 𝓤 (𝓣 .C #refusals·offer-number) Number
         → ent 𝓤 (sep 𝓤 (onEntry 𝓤 H A lent.signature (κ, tt) (q, tt) x at) (fact 𝓤 (WellFormed h)))
         (WpFn 𝓤 H (𝓣 .C) (𝓣 .Λ) code.function (vptr b o ∷ values n) Post)
@@ -179,49 +178,39 @@ module _ {M : Type 1} (𝓤 : URA M) (H : Heap 𝓤) (A : Atoms 𝓤) (at-mem : 
         qed W (((‵ (flft κ q) ⊛ ‵ ftrue) ⊛ ‵ (owns (MutRef (named 0) κ T.the-row ∷ numbers) x at)) ∷ raw (fact 𝓤 (WellFormed h)) ∷ []) ∵
         split ! $ split ! $ move ! (2 ∷ []) $ fsplit ! $ fsplit3 ! $ drop ! $ keep ! (5 ∷ 0 ∷ 1 ∷ 3 ∷ []) $ heard ! (WellFormed h) (λ formed.
         -- [obs; the loan; its token]
-        enter ! (𝓣 .C) (𝓣 .Λ) code.function (vptr b o ∷ values n) _ $
-        alloc1 ! (λ l₀. alloc1 ! (λ l₁. alloc1 ! (λ l₂. alloc1 ! (λ l₃. alloc1 ! (λ l₄. alloc1 ! (λ l₅. alloc1 ! (λ l₆. alloc1 ! (λ l₇.
-        alloc1 ! (λ l₈. alloc1 ! (λ l₉. alloc1 ! (λ l₁₀. alloc1 ! (λ l₁₁. alloc1 ! (λ l₁₂. alloc1 ! (λ l₁₃. alloc1 ! (λ l₁₄. alloc1 ! (λ l₁₅.
-        alloc1 ! (λ l₁₆. alloc1 ! (λ l₁₇. alloc0 ! $ params1 ! $ pass1 ! (init ! 32 refl (tt, tt)) $
-        pass1 ! (init ! 30 refl (tt, record { fits = fits .stream })) $ pass1 ! (init ! 28 refl (tt, record { fits = fits .kind })) $
-        pass1 ! (init ! 26 refl (tt, record { fits = fits .period })) $ pass1 ! (init ! 24 refl (tt, record { fits = fits .min })) $
-        pass1 ! (init ! 22 refl (tt, record { fits = fits .max })) $ pass1 ! (init ! 20 refl (tt, record { fits = fits .life })) $ pass0 ! $
-        -- [_17; …17; _16; …16; and so on, down to _0; …0; obs; the loan; its token]
-        assigns ! (agg ! (and-then ! (load ! (from ! (stop !)) (look ! 30 refl)) (and-then ! (load ! (from ! (stop !)) (look ! 28 refl))
-        (and-then ! (load ! (from ! (stop !)) (look ! 26 refl)) (and-then ! (load ! (from ! (stop !)) (look ! 24 refl))
-        (and-then ! (load ! (from ! (stop !)) (look ! 22 refl)) (and-then ! (load ! (from ! (stop !)) (look ! 20 refl)) (no-more !))))))))
-        (from ! (stop !)) (init ! 18 refl (LL.lawful Q.the-type Q′.the-laws 𝓤 H A W .typed n _ (is-request n fits) .0)) $
-        move ! (36 ∷ 37 ∷ 38 ∷ 8 ∷ 32 ∷ []) $ table-copied b o refl ! refl h (λ was.
-        -- [the table; what it owns; the open loan; obs; auth; _13; _1; _17; …17; _16; …16; _15; …15; _14; …14; …13; _12; …12; _11; …11;
-        --  _10; …10; _9; …9; _8; …8; _7; …7; _6; …6; _5; …5; _4; …4; _3; …3; _2; …2; …1; _0; …0]
+        enters ! (𝓣 .C) (𝓣 .Λ) code.function (vptr b o ∷ values n) _ (λ l₀ l₁ l₂ l₃ l₄ l₅ l₆ l₇ l₈ l₉ l₁₀ l₁₁ l₁₂ l₁₃ l₁₄ l₁₅ l₁₆ l₁₇.
+        params1 ! $ pass1 ! (keeps ! 0 1 refl tt (tt, tt)) $
+        pass1 ! (keeps ! 0 2 refl tt (tt, record { fits = fits .stream })) $ pass1 ! (keeps ! 0 3 refl tt (tt, record { fits = fits .kind })) $
+        pass1 ! (keeps ! 0 4 refl tt (tt, record { fits = fits .period })) $ pass1 ! (keeps ! 0 5 refl tt (tt, record { fits = fits .min })) $
+        pass1 ! (keeps ! 0 6 refl tt (tt, record { fits = fits .max })) $ pass1 ! (keeps ! 0 7 refl tt (tt, record { fits = fits .life })) $
+        pass0 ! $
+        sets ! 0 refl tt (agg ! (and-then ! (value ! 0 refl refl) (and-then ! (value ! 0 refl refl) (and-then ! (value ! 0 refl refl)
+        (and-then ! (value ! 0 refl refl) (and-then ! (value ! 0 refl refl) (and-then ! (value ! 0 refl refl) (no-more !))))))))
+        (LL.lawful Q.the-type Q′.the-laws 𝓤 H A W .typed n _ (is-request n fits) .0) $
+        move ! (1 ∷ 2 ∷ 3 ∷ []) $ table-copied b o ! refl tt refl h (λ was.
+        -- [the table; what it owns; the open loan; obs; auth; the locals]
         move ! (1 ∷ []) $ drop ! $ table-closes b o ! tt h was $
-        -- [obs; the loan; its token; _13; _1; _17; …]
+        -- [obs; the loan; its token; the locals]
         calls-value ! (fmOf 𝓤 H (W .laws) 𝓣) D.the-row (LL.val D.the-type D′.the-laws) (LL.tells D.the-type D′.the-laws) Done Decide known
-        to-decide (asked was formed) given
-        (and-then ! (load ! (from ! (stop !)) (look ! 4 refl)) (and-then ! (load ! (from ! (stop !)) (look ! 23 refl)) (no-more !))) (λ d e is.
+        to-decide (asked was formed) given (and-then ! (value ! 4 refl refl) (and-then ! (value ! 4 refl refl) (no-more !))) (λ d e is.
         let fields-are = LL.owed D.the-type D′.the-laws d _ is in
-        land ! (from ! (stop !)) (init ! 20 refl (LL.lawful D.the-type D′.the-laws 𝓤 H A W .typed d _ is .0)) $
-        assigns ! (of-opd ! (load ! (from ! (fld ! refl (stop !))) (look-in ! 20 (sub ! 1 refl (whole !))))) (from ! (stop !))
-        (init ! 18 refl (tt, record { fits = fields-are .1 .0 .1 })) $
-        assigns ! (of-opd ! (load ! (from ! (fld ! refl (stop !))) (look-in ! 20 (sub ! 2 refl (whole !))))) (from ! (stop !))
-        (init ! 16 refl (LL.lawful N.the-type N′.the-laws 𝓤 H A W .typed (d .entry) _ (fields-are .1 .1 .0) .0)) $
-        open-ref ! tt (mem T.the-row) {b = b} {o = o} $
-        -- [the table; the open loan; obs; auth; _13; _1; _17; …]
-        move ! (0 ∷ 5 ∷ 19 ∷ 10 ∷ 8 ∷ 6 ∷ 17 ∷ 12 ∷ []) $
-        entry-put b o (d .place) ! refl refl refl refl refl refl refl h (formed .size) (d .entry) (fields-are .1 .1 .0) $
-        -- [the table; _1; _10; _15; _16; _17; _11; _14; the open loan; obs; auth; _13; …17; …16; …15; …14; …13; _12; …12; …11; …10; _9; …9; …]
-        move ! (0 ∷ 8 ∷ 9 ∷ 10 ∷ []) $ close-ref ! tt (mem T.the-row) (with-entry h (d .place) (d .entry)) {b = b} {o = o} $
-        -- [obs; the loan; its token; _1; _10; _15; _16; _17; _11; _14; _13; …17; …16; …15; …14; …13; _12; …12; …11; …10; _9; …9; _8; …8; …]
-        assigns ! (of-opd ! (load ! (from ! (fld ! refl (stop !))) (look-in ! 20 (sub ! 0 refl (whole !))))) (from ! (stop !))
-        (init ! 16 refl (EL.lawful R.the-type R′.the-laws 𝓤 H A W tt .typed (d .answer) _ (fields-are .0) .0)) $
+        receives ! 3 refl tt (LL.lawful D.the-type D′.the-laws 𝓤 H A W .typed d _ is .0) $
+        sets ! 3 refl tt (of-opd ! (load ! (from ! (fld ! refl (stop !))) (look-in ! 3 (sub ! 1 refl (cell ! 9 refl)))))
+        (tt, record { fits = fields-are .1 .0 .1 }) $
+        sets ! 3 refl tt (of-opd ! (load ! (from ! (fld ! refl (stop !))) (look-in ! 3 (sub ! 2 refl (cell ! 9 refl)))))
+        (LL.lawful N.the-type N′.the-laws 𝓤 H A W .typed (d .entry) _ (fields-are .1 .1 .0) .0) $
+        open-ref ! tt (mem T.the-row) {b = b} {o = o} $ move ! (0 ∷ 4 ∷ []) $
+        -- [the table; the locals; the open loan; obs; auth]
+        entry-put b o (d .place) ! refl tt refl refl (refl, refl, refl, tt, tt, tt, refl, refl, refl, refl) refl h (formed .size) (d .entry) refl
+        (fields-are .1 .1 .0) refl refl $
+        move ! (0 ∷ 2 ∷ 3 ∷ 4 ∷ []) $ close-ref ! tt (mem T.the-row) (with-entry h (d .place) (d .entry)) {b = b} {o = o} $
+        -- [obs; the loan; its token; the locals]
+        sets ! 3 refl tt (of-opd ! (load ! (from ! (fld ! refl (stop !))) (look-in ! 3 (sub ! 0 refl (cell ! 9 refl)))))
+        (EL.lawful R.the-type R′.the-laws 𝓤 H A W tt .typed (d .answer) _ (fields-are .0) .0) $
         calls-number R.the-row offerNumber ! (fmOf 𝓤 H (W .laws) 𝓣) (EL.makes R.the-type R′.the-plain 𝓤 H A) numbered
-        (d .answer) (EL.val R.the-type R′.the-laws (d .answer)) (fields-are .0)
-        (and-then ! (load ! (from ! (stop !)) (look ! 17 refl)) (no-more !)) (λ f.
-        land ! (from ! (stop !)) (init ! 37 refl (tt, record { fits = f })) $ returns ! (look ! 37 refl) $
-        move ! (37 ∷ 38 ∷ 3 ∷ 36 ∷ 34 ∷ 35 ∷ 32 ∷ 33 ∷ 30 ∷ 31 ∷ 28 ∷ 29 ∷ 26 ∷ 27 ∷ 24 ∷ 25 ∷ 22 ∷ 23 ∷ 20 ∷ 21 ∷ 4 ∷ 19 ∷ 8 ∷ 18 ∷ 16 ∷ 17
-        ∷ 10 ∷ 15 ∷ 9 ∷ 14 ∷ 5 ∷ 13 ∷ 6 ∷ 12 ∷ 7 ∷ 11 ∷ []) $
-        gone ! $ gone ! $ gone ! $ gone ! $ gone ! $ gone ! $ gone ! $ gone ! $ gone ! $ gone ! $ gone ! $ gone ! $ gone ! $ gone ! $
-        free1 ! $ free1 ! $ free1 ! $ free1 ! $ free0 ! $ by ! (exits d e f)))))))))))))))))))))))
+        (d .answer) (EL.val R.the-type R′.the-laws (d .answer)) (fields-are .0) (and-then ! (value ! 4 refl refl) (no-more !)) (λ f.
+        receives ! 3 refl tt (tt, record { fits = f }) $ returns ! (look-in ! 3 (cell ! 0 refl)) $ move ! (3 ∷ []) $ freed ! $
+        by ! (exits d e f))))))
 
   lent-meets : Given 𝓤 H A → (𝓣 : Tables 𝓤 H) → Triple 𝓤 (𝓣 .C #admission·decide) Decide → Triple 𝓤 (𝓣 .C #refusals·offer-number) Number
       → Meets 𝓤 H A lent.signature (WpFn 𝓤 H (𝓣 .C) (𝓣 .Λ) code.function) (lent.spec 𝓤 H A at-mem run)

@@ -17,8 +17,8 @@ use ghost.Atoms.{Atoms, sem}
 use contract.Monad.{Fun, fact}
 use contract.Running.{givenOf, tables, tablesOf}
 use types.Kit.{Given, ‵, raw, mean, ⋆, _$_, _∵_, !, qed, by, move, keep, join, fjoin, done}
-use types.Run.{look, init, store, stop, hop, from, load, lit, of-opd, bin, and-then, no-more, assigns, land}
-use types.Run.{returns, returns-within, enter, alloc1, alloc0, params1, pass1, pass0, free1, free0}
+use types.Run.{store, stop, hop, from, lit, of-opd, bin, and-then, no-more, assigns, returns, returns-within, params1, pass1, pass0}
+use types.Part.{look-in}
 use sound.WpLaws.{fmOf}
 use denote.Plain.{Boolean, bool-tells}
 use denote.Steps.{nothing}
@@ -44,7 +44,8 @@ use Rattle.opening.proofs.empty_table.Symbol as empty-def
 use Rattle.opening.proofs.empty_table.Symbol.{name as #opening·empty-table}
 use Rattle.opening.proofs.empty_table.Met as empty-thm
 use Rattle.rules.specs.Calls.{openAnswer, opened}
-use Rattle.host.proofs.Lent.{machine, lent, loan, number, large, gone, table-opens, table-closes}
+use Rattle.host.proofs.Lent.{machine, lent, loan, number, large, table-opens, table-closes}
+use Rattle.host.proofs.Locals.{cell, enters, freed, keeps, value, sets, receives}
 use Rattle.host.proofs.Walk.{Gives, gives, is-true, is-false, calls-value, tests}
 use Rattle.host.proofs.Number.{Post, exits, loan-meets}
 use Rattle.host.proofs.gelmush_open.Key.{name as #host·gelmush-open}
@@ -107,37 +108,34 @@ module _ {M : Type 1} (𝓤 : URA M) (H : Heap 𝓤) (A : Atoms 𝓤) (at-mem : 
         (WpFn 𝓤 H (𝓣 .C) (𝓣 .Λ) code.function (vptr b o ∷ vint w32 n ∷ []) Ends)
     walk known-within known-empty fits =
         qed W (‵ (fobs γ (lent h)) ∷ ‵ (loan κ b o γ) ∷ ‵ (flft κ q) ∷ raw (emp 𝓤) ∷ []) ∵
-        enter ! (𝓣 .C) (𝓣 .Λ) code.function (vptr b o ∷ vint w32 n ∷ []) _ $
-        alloc1 ! (λ l₀. alloc1 ! (λ l₁. alloc1 ! (λ l₂. alloc1 ! (λ l₃. alloc1 ! (λ l₄. alloc1 ! (λ l₅. alloc0 ! $ params1 ! $
-        pass1 ! (init ! 8 refl (tt, tt)) $ pass1 ! (init ! 6 refl (tt, record { fits = fits })) $ pass0 ! $
-        -- [_5; …5; _4; …4; _3; …3; _2; …2; _1; …1; _0; …0; obs; the loan; its token; true]
+        enters ! (𝓣 .C) (𝓣 .Λ) code.function (vptr b o ∷ vint w32 n ∷ []) _ (λ l₀ l₁ l₂ l₃ l₄ l₅. params1 ! $
+        pass1 ! (keeps ! 0 1 refl tt (tt, tt)) $ pass1 ! (keeps ! 0 2 refl tt (tt, record { fits = fits })) $ pass0 ! $
+        -- [the locals; obs; the loan; its token; true]
         calls-value ! (fmOf 𝓤 H (W .laws) 𝓣) Boolean vbool bool-tells (λ r. r ≡ within 1 1000 n) Within known-within (to-within W n fits)
         (within-asked W n fits) (within-given W n fits)
-        (and-then ! (lit ! tt) (and-then ! (lit ! tt) (and-then ! (load ! (from ! (stop !)) (look ! 7 refl)) (no-more !)))) (λ r e is.
-        land ! (from ! (stop !)) (init ! 4 refl (tt, tt)) $ tests ! (load ! (from ! (stop !)) (look ! 4 refl))
+        (and-then ! (lit ! tt) (and-then ! (lit ! tt) (and-then ! (value ! 1 refl refl) (no-more !)))) (λ r e is.
+        receives ! 0 refl tt (tt, tt) $ tests ! (value ! 0 refl refl)
         (λ on.
         let in-range = sym e ∙ is-true r on in
         let slots : 1024 * n < 2 ^ 32 = search (needs, within-both 1 1000 n in-range) in
-        assigns ! (bin ! (large ! (record { fits = lit< tt })) (load ! (from ! (stop !)) (look ! 6 refl)) (record { fits = slots }))
-        (from ! (stop !)) (init ! 0 refl (tt, record { fits = slots })) $
+        sets ! 0 refl tt (bin ! (large ! (record { fits = lit< tt })) (value ! 0 refl refl) (record { fits = slots }))
+        (tt, record { fits = slots }) $
         calls-value ! (fmOf 𝓤 H (W .laws) 𝓣) T.the-row machine (LL.tells T.the-type T′.the-laws) (λ t. t ≡ noneHeld (1024 * n))
         Empty known-empty (to-empty W (1024 * n) slots) (empty-asked W (1024 * n) slots) (empty-given W (1024 * n) slots)
-        (and-then ! (load ! (from ! (stop !)) (look ! 1 refl)) (no-more !)) (λ t made is-table.
+        (and-then ! (value ! 1 refl refl) (no-more !)) (λ t made is-table.
         let typed = LL.lawful T.the-type T′.the-laws 𝓤 H A W .typed t _ is-table .0 in
-        land ! (from ! (stop !)) (init ! 2 refl typed) $ move ! (12 ∷ 13 ∷ 14 ∷ []) $ table-opens b o ! tt h (λ was.
-        -- [the lent table; what it owns; the open loan; obs; auth; _5; …5; _4; …4; _3; …3; _2; …2; _1; …1; _0; …0; true]
-        assigns ! (of-opd ! (load ! (from ! (stop !)) (look ! 7 refl))) (from ! (hop ! (look ! 13 refl) (stop !))) (store ! 0 refl typed) $
+        receives ! 0 refl tt typed $ move ! (1 ∷ 2 ∷ 3 ∷ []) $ table-opens b o ! tt h (λ was.
+        -- [the lent table; what it owns; the open loan; obs; auth; the locals; true]
+        assigns ! (of-opd ! (value ! 5 refl refl)) (from ! (hop ! (look-in ! 5 (cell ! 1 refl)) (stop !))) (store ! 0 refl typed) $
         move ! (0 ∷ 2 ∷ 3 ∷ 4 ∷ []) $ table-closes b o ! tt t is-table $
-        -- [obs; the loan; its token; …]
-        assigns ! (of-opd ! (lit ! tt)) (from ! (stop !)) (init ! 14 refl (tt, record { fits = lit< tt })) $
-        returns-within ! Ends refl (look ! 14 refl) $
-        move ! (14 ∷ 15 ∷ 12 ∷ 13 ∷ 10 ∷ 11 ∷ 8 ∷ 9 ∷ 6 ∷ 7 ∷ 4 ∷ 5 ∷ []) $ gone ! $ gone ! $ gone ! $ gone ! $ gone ! $ gone ! $ free0 ! $
-        keep ! (0 ∷ 1 ∷ 2 ∷ []) $ by ! (exits 𝓤 (λ t n. emp 𝓤) Says H A W κ q b o γ h n fits 0 t (opens h n t in-range made) (lit< tt)))))
+        -- [obs; the loan; its token; what the lent table owned; the locals; true]
+        sets ! 4 refl tt (of-opd ! (lit ! tt)) (tt, record { fits = lit< tt }) $
+        returns-within ! Ends refl (look-in ! 4 (cell ! 0 refl)) $ keep ! (4 ∷ 0 ∷ 1 ∷ 2 ∷ []) $ freed ! $
+        by ! (exits 𝓤 (λ t n. emp 𝓤) Says H A W κ q b o γ h n fits 0 t (opens h n t in-range made) (lit< tt)))))
         (λ off.
-        assigns ! (of-opd ! (lit ! tt)) (from ! (stop !)) (init ! 10 refl (tt, record { fits = lit< tt })) $ returns ! (look ! 10 refl) $
-        move ! (10 ∷ 11 ∷ 8 ∷ 9 ∷ 6 ∷ 7 ∷ 4 ∷ 5 ∷ []) $ gone ! $ gone ! $ gone ! $ gone ! $
-        move ! (2 ∷ 3 ∷ []) $ free1 ! $ free1 ! $ free0 ! $ keep ! (0 ∷ 1 ∷ 2 ∷ []) $
-        by ! (exits 𝓤 (λ t n. emp 𝓤) Says H A W κ q b o γ h n fits 1 h (refuses h n (sym e ∙ is-false r off)) (lit< tt))))))))))
+        sets ! 0 refl tt (of-opd ! (lit ! tt)) (tt, record { fits = lit< tt }) $ returns ! (look-in ! 0 (cell ! 0 refl)) $
+        keep ! (0 ∷ 1 ∷ 2 ∷ 3 ∷ []) $ freed ! $
+        by ! (exits 𝓤 (λ t n. emp 𝓤) Says H A W κ q b o γ h n fits 1 h (refuses h n (sym e ∙ is-false r off)) (lit< tt)))))
 
 pub gelmush-open-spec : {M : Type 1} → stated.statement M
 unfolding code.routine tablesOf

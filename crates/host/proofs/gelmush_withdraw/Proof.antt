@@ -17,8 +17,8 @@ use ghost.Atoms.{Atoms}
 use contract.Monad.{Fun}
 use contract.Running.{givenOf, tables, tablesOf}
 use types.Kit.{Given, ‵, raw, ⋆, _$_, _∵_, !, qed, by, move}
-use types.Run.{look, init, stop, hop, from, load, lit, of-opd, bin, addr, and-then, no-more, assigns, land}
-use types.Run.{returns, returns-within, enter, alloc1, alloc0, params1, pass1, pass0, free1, free0}
+use types.Run.{stop, hop, from, lit, of-opd, bin, addr, and-then, no-more, returns, returns-within, params1, pass1, pass0}
+use types.Part.{look-in}
 use types.Mut.{open-ref, close-ref}
 use sound.WpLaws.{fmOf}
 use denote.Memory.{mem}
@@ -37,7 +37,8 @@ use Rattle.rules.specs.Calls.{places, heldAnswer, withdrawn}
 use Rattle.rules.specs.WellFormed.{WellFormed}
 use Rattle.places.specs.Put.{put-past}
 use Rattle.held.specs.Held.{held-answer, held-freed}
-use Rattle.host.proofs.Lent.{lent, loan, gone}
+use Rattle.host.proofs.Lent.{lent, loan}
+use Rattle.host.proofs.Locals.{cell, enters, freed, keeps, value, sets, receives}
 use Rattle.host.proofs.Walk.{tests}
 use Rattle.host.proofs.Entries.{with-entry, typed-entry, entry-reached, entry-written}
 use Rattle.host.proofs.Number.{Post, exits, loan-meets}
@@ -68,46 +69,37 @@ module _ {M : Type 1} (𝓤 : URA M) (H : Heap 𝓤) (A : Atoms 𝓤) (at-mem : 
     abbrev Ends : Val → SProp 𝓤
     Ends = Post 𝓤 (Formed 𝓤) Says H A W κ q b o γ h n
 
-    -- In the comments on contexts, _n is the cell of the n-th local, or room for it, and …n is what frees it.
     walk : ent 𝓤 (⋆ 𝓤 H A (‵ (fobs γ (lent h)) ∷ ‵ (loan κ b o γ) ∷ ‵ (flft κ q) ∷ raw (Formed 𝓤 h n) ∷ []))
         (WpFn 𝓤 H (𝓣 .C) (𝓣 .Λ) code.function (vptr b o ∷ vint w32 n ∷ []) Ends)
     walk =
         qed W (‵ (fobs γ (lent h)) ∷ ‵ (loan κ b o γ) ∷ ‵ (flft κ q) ∷ raw (Formed 𝓤 h n) ∷ []) ∵
         move ! (3 ∷ []) $ heard ! (WellFormed h) (λ formed.
-        enter ! (𝓣 .C) (𝓣 .Λ) code.function (vptr b o ∷ vint w32 n ∷ []) _ $
-        alloc1 ! (λ l₀. alloc1 ! (λ l₁. alloc1 ! (λ l₂. alloc1 ! (λ l₃. alloc1 ! (λ l₄. alloc1 ! (λ l₅. alloc1 ! (λ l₆. alloc1 ! (λ l₇.
-        alloc1 ! (λ l₈. alloc1 ! (λ l₉. alloc0 ! $ params1 ! $
-        pass1 ! (init ! 16 refl (tt, tt)) $ pass1 ! (init ! 14 refl (tt, record { fits = fits })) $ pass0 ! $
-        -- [_9; …9; _8; …8; _7; …7; _6; …6; _5; …5; _4; …4; _3; …3; _2; …2; _1; …1; _0; …0; obs; the loan; its token]
-        assigns ! (addr ! (from ! (hop ! (look ! 16 refl) (stop !)))) (from ! (stop !)) (init ! 8 refl (tt, tt)) $
-        move ! (20 ∷ 21 ∷ 22 ∷ []) $ open-ref ! tt (mem T.the-row) {b = b} {o = o} $
-        -- [the table; the open loan; obs; auth; _9; …]
+        enters ! (𝓣 .C) (𝓣 .Λ) code.function (vptr b o ∷ vint w32 n ∷ []) _ (λ l₀ l₁ l₂ l₃ l₄ l₅ l₆ l₇ l₈ l₉. params1 ! $
+        pass1 ! (keeps ! 0 1 refl tt (tt, tt)) $ pass1 ! (keeps ! 0 2 refl tt (tt, record { fits = fits })) $ pass0 ! $
+        -- [the locals; obs; the loan; its token]
+        sets ! 0 refl tt (addr ! (from ! (hop ! (look-in ! 0 (cell ! 1 refl)) (stop !)))) (tt, tt) $
+        move ! (1 ∷ 2 ∷ 3 ∷ []) $ open-ref ! tt (mem T.the-row) {b = b} {o = o} $ move ! (0 ∷ 4 ∷ []) $
+        -- [the table; the locals; the open loan; obs; auth]
         searches-whole at-mem run ! (fmOf 𝓤 H (W .laws) 𝓣) search b o h n fits
-        (λ α γ. and-then ! (load ! (from ! (stop !)) (look ! 13 refl)) (and-then ! (load ! (from ! (stop !)) (look ! 19 refl)) (no-more !)))
+        (λ α γ. and-then ! (value ! 2 refl refl) (and-then ! (value ! 2 refl refl) (no-more !)))
         (λ p e f.
-        land ! (from ! (stop !)) (init ! 16 refl (tt, record { fits = f })) $
-        assigns ! (bin ! (load ! (from ! (stop !)) (look ! 16 refl)) (lit ! tt) tt) (from ! (stop !)) (init ! 10 refl (tt, tt)) $
-        tests ! (load ! (from ! (stop !)) (look ! 10 refl))
+        receives ! 1 refl tt (tt, record { fits = f }) $ sets ! 1 refl tt (bin ! (value ! 1 refl refl) (lit ! tt) tt) (tt, tt) $
+        tests ! (value ! 1 refl refl)
         (λ on.
         frees-entry at-mem run ! (fmOf 𝓤 H (W .laws) 𝓣) free (no-more !) (λ is.
-        land ! (from ! (stop !)) (init ! 14 refl (typed-entry 𝓤 H A W freeEntry is)) $
-        move ! (20 ∷ 16 ∷ 8 ∷ 6 ∷ 4 ∷ []) $ entry-reached b o p ! (ltb→lt p 32 on) refl refl refl refl refl $
-        -- [_1; _3; _7; _8; _9; the table; the open loan; obs; auth; …9; …8; …7; _6; …6; _5; …5; _4; …4; …3; _2; …2; …1; _0; …0]
-        move ! (5 ∷ 4 ∷ 16 ∷ []) $ entry-written b o p ! (ltb→lt p 32 on) refl refl h freeEntry is $
-        -- [the table; _9; _4; _1; _3; _7; _8; the open loan; obs; auth; …9; …8; …7; _6; …6; _5; …5; …4; …3; _2; …2; …1; _0; …0]
-        assigns ! (of-opd ! (lit ! tt)) (from ! (stop !)) (init ! 22 refl (tt, record { fits = lit< tt })) $
-        move ! (0 ∷ 7 ∷ 8 ∷ 9 ∷ []) $ close-ref ! tt (mem T.the-row) (with-entry h p freeEntry) {b = b} {o = o} $
-        returns-within ! Ends refl (look ! 21 refl) $
-        move ! (21 ∷ 22 ∷ 5 ∷ 20 ∷ 18 ∷ 19 ∷ 6 ∷ 17 ∷ 4 ∷ 16 ∷ 14 ∷ 15 ∷ 12 ∷ 13 ∷ 7 ∷ 11 ∷ 8 ∷ 10 ∷ 3 ∷ 9 ∷ []) $
-        gone ! $ gone ! $ gone ! $ gone ! $ gone ! $ gone ! $ gone ! $ gone ! $ gone ! $ gone ! $ free0 ! $
+        receives ! 1 refl tt (typed-entry 𝓤 H A W freeEntry is) $
+        entry-reached b o p ! (ltb→lt p 32 on) (refl, refl, refl, tt, tt, tt, refl, refl, refl, refl) $
+        entry-written b o p ! (ltb→lt p 32 on) refl h freeEntry refl is $
+        sets ! 1 refl tt (of-opd ! (lit ! tt)) (tt, record { fits = lit< tt }) $
+        move ! (0 ∷ 2 ∷ 3 ∷ 4 ∷ []) $ close-ref ! tt (mem T.the-row) (with-entry h p freeEntry) {b = b} {o = o} $
+        returns-within ! Ends refl (look-in ! 3 (cell ! 0 refl)) $ move ! (3 ∷ []) $ freed ! $
         by ! (exits 𝓤 (Formed 𝓤) Says H A W κ q b o γ h n fits 0 (with-entry h p freeEntry)
         (frees h n formed p e (ltb→lt p 32 on)) (lit< tt))))
         (λ off.
-        assigns ! (of-opd ! (lit ! tt)) (from ! (stop !)) (init ! 22 refl (tt, record { fits = lit< tt })) $
-        close-ref ! tt (mem T.the-row) h {b = b} {o = o} $ returns ! (look ! 21 refl) $
-        move ! (21 ∷ 22 ∷ 19 ∷ 20 ∷ 17 ∷ 18 ∷ 15 ∷ 16 ∷ 13 ∷ 14 ∷ 11 ∷ 12 ∷ 9 ∷ 10 ∷ 7 ∷ 8 ∷ 5 ∷ 6 ∷ 3 ∷ 4 ∷ []) $
-        gone ! $ gone ! $ gone ! $ gone ! $ free1 ! $ gone ! $ gone ! $ free1 ! $ free1 ! $ free1 ! $ free0 ! $
-        by ! (exits 𝓤 (Formed 𝓤) Says H A W κ q b o γ h n fits 20 h (leaves h n formed p e (nltb→le p 32 off)) (lit< tt)))))))))))))))
+        sets ! 1 refl tt (of-opd ! (lit ! tt)) (tt, record { fits = lit< tt }) $
+        move ! (0 ∷ 2 ∷ 3 ∷ 4 ∷ []) $ close-ref ! tt (mem T.the-row) h {b = b} {o = o} $
+        returns ! (look-in ! 3 (cell ! 0 refl)) $ move ! (3 ∷ []) $ freed ! $
+        by ! (exits 𝓤 (Formed 𝓤) Says H A W κ q b o γ h n fits 20 h (leaves h n formed p e (nltb→le p 32 off)) (lit< tt))))))
 
 pub gelmush-withdraw-spec : {M : Type 1} → stated.statement M
 unfolding code.routine tablesOf
