@@ -59,10 +59,10 @@ use Rattle.refusals.proofs.beacon_number.Met as number-thm
 use Rattle.host.specs.declared.Sent.{Sent}
 use Rattle.host.proofs.Sent as S
 use Rattle.host.proofs.Sent.Laws as S′
-use Rattle.host.proofs.Lent.{machine, lent as tracked, loan, table-copied, table-closes}
-use Rattle.host.proofs.Locals.{cell, enters, freed, keeps, value, part, sets, receives}
-use Rattle.host.proofs.Walk.{spells}
-use Rattle.host.proofs.Answers.{Numbers, calls-number}
+use Rattle.lent.proofs.Lent.{machine, lent as tracked, loan, table-copied, table-closes}
+use Rattle.lent.proofs.Locals.{cell, enters, freed, keeps, value, part, sets, receives}
+use Rattle.lent.proofs.Walk.{spells}
+use Rattle.lent.proofs.Answers.{Numbers, calls-number}
 use Rattle.host.proofs.gelmush_beacon.Key.{name as #host·gelmush-beacon}
 use Rattle.host.proofs.gelmush_beacon as lent
 use Rattle.host.proofs.gelmush_beacon.Statement as stated

@@ -62,11 +62,11 @@ use Rattle.admission.proofs.decide.Met as decide-thm
 use Rattle.refusals.proofs.offer_number.Symbol as number-def
 use Rattle.refusals.proofs.offer_number.Symbol.{name as #refusals·offer-number}
 use Rattle.refusals.proofs.offer_number.Met as number-thm
-use Rattle.host.proofs.Lent.{machine, IsTable, Lent, number, table-copied, table-closes}
-use Rattle.host.proofs.Locals.{cell, enters, freed, keeps, value, part, sets, receives}
-use Rattle.host.proofs.Walk.{Gives, gives, calls-value}
-use Rattle.host.proofs.Entries.{with-entry, entry-put}
-use Rattle.host.proofs.Answers.{Numbers, calls-number}
+use Rattle.lent.proofs.Lent.{machine, IsTable, Lent, number, table-copied, table-closes}
+use Rattle.lent.proofs.Locals.{cell, enters, freed, keeps, value, part, sets, receives}
+use Rattle.lent.proofs.Walk.{Gives, gives, calls-value}
+use Rattle.lent.proofs.Entries.{with-entry, entry-put}
+use Rattle.lent.proofs.Answers.{Numbers, calls-number}
 use Rattle.host.proofs.gelmush_offer.Key.{name as #host·gelmush-offer}
 use Rattle.host.proofs.gelmush_offer as lent
 use Rattle.host.proofs.gelmush_offer.Statement as stated

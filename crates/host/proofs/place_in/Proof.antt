@@ -39,11 +39,11 @@ use Rattle.model.proofs.Entry.Laws as N′
 use Rattle.model.proofs.Table as T
 use Rattle.places.proofs.Known.{inside, past}
 use Rattle.survey.specs.Search.{isHeldAs, held-by-number, place-nobody}
-use Rattle.host.proofs.Lent.{lent}
-use Rattle.host.proofs.Locals.{locals, cell, enters, freed, forgets, keeps, value, part, sets}
-use Rattle.host.proofs.Walk.{is-true, is-false, tests}
-use Rattle.host.proofs.Entries.{tableAt, at-place, typed-entry, entry-reached, entry-read}
-use Rattle.host.proofs.Looked.{look as loan, Shared, Post, exits, look-meets, look-opens, look-shuts}
+use Rattle.lent.proofs.Lent.{lent}
+use Rattle.lent.proofs.Locals.{locals, cell, enters, freed, forgets, keeps, value, part, sets}
+use Rattle.lent.proofs.Walk.{is-true, is-false, tests}
+use Rattle.lent.proofs.Entries.{tableAt, at-place, typed-entry, entry-reached, entry-read}
+use Rattle.lent.proofs.Looked.{look as loan, Shared, Post, exits, look-meets, look-opens, look-shuts}
 use Rattle.host.proofs.place_in.Key.{name as #host·place-in}
 use Rattle.host.proofs.place_in as lent′
 use Rattle.host.proofs.place_in.Statement as stated
