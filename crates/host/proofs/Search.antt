@@ -39,10 +39,10 @@ use Rattle.model.proofs.free_entry as free
 use Rattle.model.proofs.free_entry.Symbol.{name as #model·free-entry}
 use Rattle.rules.specs.WellFormed.{WellFormed}
 use Rattle.survey.specs.Search.{isHeldAs}
-use Rattle.host.proofs.Lent.{lent, number}
-use Rattle.host.proofs.Walk.{Gives, gives, calls-value}
-use Rattle.host.proofs.Entries.{tableAt, entryVal, IsEntry}
-use Rattle.host.proofs.Looked.{look, Shared}
+use Rattle.lent.proofs.Lent.{lent, number}
+use Rattle.lent.proofs.Walk.{Gives, gives, calls-value}
+use Rattle.lent.proofs.Entries.{tableAt, entryVal, IsEntry}
+use Rattle.lent.proofs.Looked.{look, Shared}
 use Rattle.host.proofs.place_in as search
 use Rattle.host.proofs.place_in.Symbol.{name as #host·place-in}
 

@@ -18,7 +18,7 @@ use contract.Monad.{Fun, fact}
 use contract.Running.{givenOf, tables, tablesOf}
 use types.Kit.{Given, Item, ‵, raw, some, later, _⊛_, ⋆, _$_, _∵_, !, qed, by, move, keep, drop, use1, use3, split, join, pick}
 use types.Kit.{fsplit, fsplit3, fjoin, fjoin3, feqL, feqI, suffices, frame, await, done}
-use types.Run.{store, stop, hop, fld, from, load, of-opd, addr, and-then, no-more, assigns, returns, params1, pass1, pass0}
+use types.Run.{store, stop, hop, fld, from, of-opd, addr, and-then, no-more, assigns, returns, params1, pass1, pass0}
 use types.Part.{agg, sub, look-in}
 use sound.WpLaws.{fmOf, WpFn-mono}
 use denote.RattleType.{owns}
@@ -59,10 +59,10 @@ use Rattle.refusals.proofs.beacon_number.Met as number-thm
 use Rattle.host.specs.declared.Sent.{Sent}
 use Rattle.host.proofs.Sent as S
 use Rattle.host.proofs.Sent.Laws as S′
-use Rattle.host.proofs.Lent.{machine, lent as tracked, loan, table-copied, table-closes}
-use Rattle.host.proofs.Locals.{cell, enters, freed, keeps, value, sets, receives}
-use Rattle.host.proofs.Walk.{spells}
-use Rattle.host.proofs.Answers.{Numbers, calls-number}
+use Rattle.lent.proofs.Lent.{machine, lent as tracked, loan, table-copied, table-closes}
+use Rattle.lent.proofs.Locals.{cell, enters, freed, keeps, value, part, sets, receives}
+use Rattle.lent.proofs.Walk.{spells}
+use Rattle.lent.proofs.Answers.{Numbers, calls-number}
 use Rattle.host.proofs.gelmush_beacon.Key.{name as #host·gelmush-beacon}
 use Rattle.host.proofs.gelmush_beacon as lent
 use Rattle.host.proofs.gelmush_beacon.Statement as stated
@@ -162,7 +162,7 @@ module _ {M : Type 1} (𝓤 : URA M) (H : Heap 𝓤) (A : Atoms 𝓤) (at-mem : 
         -- [the table; what it owns; the open loan; obs; auth; the locals; plan; true; token]
         sets ! 5 refl tt (addr ! (from ! (fld ! refl (hop ! (look-in ! 5 (sub ! 0 refl (cell ! 2 refl))) (stop !))))) (tt, tt) $
         sets ! 5 refl tt (agg ! (and-then ! (value ! 5 refl refl)
-        (and-then ! (load ! (from ! (fld ! refl (stop !))) (look-in ! 5 (sub ! 1 refl (cell ! 2 refl)))) (no-more !))))
+        (and-then ! (part ! 5 refl refl refl tt) (no-more !))))
         (tt, (tt, (record { fits = room .0 }, tt))) $
         move ! (8 ∷ 1 ∷ 6 ∷ []) $ use3 W (raw (Call .pre to-call)) (asked formed) $
         -- [the call; the table; the open loan; obs; auth; the locals; true]
@@ -181,19 +181,19 @@ module _ {M : Type 1} (𝓤 : URA M) (H : Heap 𝓤) (A : Atoms 𝓤) (at-mem : 
         let fields-are = LL.owed B.the-type B′.the-laws r _ is in
         -- [token; last list; true; true; the table; the open loan; obs; auth; the locals; true]
         receives ! 8 refl tt (LL.lawful B.the-type B′.the-laws 𝓤 H A W .typed r _ is .0) $
-        assigns ! (of-opd ! (load ! (from ! (fld ! refl (stop !))) (look-in ! 8 (sub ! 2 refl (cell ! 3 refl)))))
+        assigns ! (of-opd ! (part ! 8 refl refl refl tt))
         (from ! (hop ! (look-in ! 8 (cell ! 1 refl)) (stop !)))
         (store ! 4 refl (LL.lawful T.the-type T′.the-laws 𝓤 H A W .typed (r .table) _ (fields-are .1 .1 .0) .0)) $
         move ! (4 ∷ 5 ∷ 6 ∷ 7 ∷ []) $ table-closes b o ! tt (r .table) (fields-are .1 .1 .0) $
         -- [obs; the loan; its token; token; last list; true; true; the locals; true]
-        sets ! 7 refl tt (of-opd ! (load ! (from ! (fld ! refl (stop !))) (look-in ! 7 (sub ! 0 refl (cell ! 3 refl)))))
+        sets ! 7 refl tt (of-opd ! (part ! 7 refl refl refl tt))
         (EL.lawful R.the-type R′.the-laws 𝓤 H A W tt .typed (r .answer) _ (fields-are .0) .0) $
         calls-number R.the-row beaconNumber ! (fmOf 𝓤 H (W .laws) 𝓣) (EL.makes R.the-type R′.the-plain 𝓤 H A) numbered
         (r .answer) (answerVal (r .answer)) (fields-are .0) (and-then ! (value ! 8 refl refl) (no-more !)) (λ f.
         let n = beaconNumber (r .answer) in
         receives ! 7 refl tt (tt, record { fits = f }) $
         sets ! 7 refl tt (agg ! (and-then ! (value ! 7 refl refl)
-        (and-then ! (load ! (from ! (fld ! refl (stop !))) (look-in ! 7 (sub ! 1 refl (cell ! 3 refl)))) (no-more !))))
+        (and-then ! (part ! 7 refl refl refl tt) (no-more !))))
         (LL.lawful S.the-type S′.the-laws 𝓤 H A W .typed (sent n (r .count)) _ (is-sent n (r .count) f (fields-are .1 .0 .1)) .0) $
         returns ! (look-in ! 7 (cell ! 0 refl)) $ keep ! (7 ∷ 0 ∷ 1 ∷ 2 ∷ 3 ∷ 4 ∷ []) $ freed ! $
         by ! (exits n (r .count) (r .table) (zs .1 .0) (e .0, e .1 .0, e .1 .1 .0, e .1 .1 .1) l f (fields-are .1 .0 .1))))))))))))

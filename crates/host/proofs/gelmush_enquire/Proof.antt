@@ -40,11 +40,11 @@ use Rattle.held.specs.Held.{held-answer, held-entry, none-entry}
 use Rattle.host.specs.declared.Found.{Found}
 use Rattle.host.proofs.Found as F
 use Rattle.host.proofs.Found.Laws as F′
-use Rattle.host.proofs.Lent.{lent, Typed}
-use Rattle.host.proofs.Locals.{cell, enters, freed, keeps, value, sets, receives}
-use Rattle.host.proofs.Walk.{tests}
-use Rattle.host.proofs.Entries.{at-place, IsEntry, typed-entry, entry-reached, entry-read}
-use Rattle.host.proofs.Looked.{look as loan, Post, exits, look-meets, look-opens, look-shuts}
+use Rattle.lent.proofs.Lent.{lent, Typed}
+use Rattle.lent.proofs.Locals.{cell, enters, freed, keeps, value, sets, receives}
+use Rattle.lent.proofs.Walk.{tests}
+use Rattle.lent.proofs.Entries.{at-place, IsEntry, typed-entry, entry-reached, entry-read}
+use Rattle.lent.proofs.Looked.{look as loan, Post, exits, look-meets, look-opens, look-shuts}
 use Rattle.host.proofs.Search.{Formed, IsPlace, Search, Free, searches, frees-entry}
 use Rattle.host.proofs.place_in.Symbol as search-def
 use Rattle.host.proofs.place_in.Symbol.{name as #host·place-in}

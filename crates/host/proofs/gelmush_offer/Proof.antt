@@ -17,8 +17,8 @@ use contract.Monad.{Fun, fact}
 use contract.Running.{givenOf, tables, tablesOf}
 use types.Kit.{Given, ‵, raw, mean, _⊛_, ⋆, _$_, _∵_, !, qed, by, move, keep, drop, use0, split, join}
 use types.Kit.{fsplit, fsplit3, fjoin, fjoin3, feqI, suffices, frame, done}
-use types.Run.{stop, fld, from, load, of-opd, and-then, no-more, returns, params1, pass1, pass0}
-use types.Part.{agg, sub, look-in}
+use types.Run.{of-opd, and-then, no-more, returns, params1, pass1, pass0}
+use types.Part.{agg, look-in}
 use types.Mut.{open-ref, close-ref}
 use sound.WpLaws.{fmOf, WpFn-mono}
 use denote.RattleType.{RattleType, owns}
@@ -62,11 +62,11 @@ use Rattle.admission.proofs.decide.Met as decide-thm
 use Rattle.refusals.proofs.offer_number.Symbol as number-def
 use Rattle.refusals.proofs.offer_number.Symbol.{name as #refusals·offer-number}
 use Rattle.refusals.proofs.offer_number.Met as number-thm
-use Rattle.host.proofs.Lent.{machine, IsTable, Lent, number, table-copied, table-closes}
-use Rattle.host.proofs.Locals.{cell, enters, freed, keeps, value, sets, receives}
-use Rattle.host.proofs.Walk.{Gives, gives, calls-value}
-use Rattle.host.proofs.Entries.{with-entry, entry-put}
-use Rattle.host.proofs.Answers.{Numbers, calls-number}
+use Rattle.lent.proofs.Lent.{machine, IsTable, Lent, number, table-copied, table-closes}
+use Rattle.lent.proofs.Locals.{cell, enters, freed, keeps, value, part, sets, receives}
+use Rattle.lent.proofs.Walk.{Gives, gives, calls-value}
+use Rattle.lent.proofs.Entries.{with-entry, entry-put}
+use Rattle.lent.proofs.Answers.{Numbers, calls-number}
 use Rattle.host.proofs.gelmush_offer.Key.{name as #host·gelmush-offer}
 use Rattle.host.proofs.gelmush_offer as lent
 use Rattle.host.proofs.gelmush_offer.Statement as stated
@@ -195,9 +195,9 @@ module _ {M : Type 1} (𝓤 : URA M) (H : Heap 𝓤) (A : Atoms 𝓤) (at-mem : 
         to-decide (asked was formed) given (and-then ! (value ! 4 refl refl) (and-then ! (value ! 4 refl refl) (no-more !))) (λ d e is.
         let fields-are = LL.owed D.the-type D′.the-laws d _ is in
         receives ! 3 refl tt (LL.lawful D.the-type D′.the-laws 𝓤 H A W .typed d _ is .0) $
-        sets ! 3 refl tt (of-opd ! (load ! (from ! (fld ! refl (stop !))) (look-in ! 3 (sub ! 1 refl (cell ! 9 refl)))))
+        sets ! 3 refl tt (of-opd ! (part ! 3 refl refl refl tt))
         (tt, record { fits = fields-are .1 .0 .1 }) $
-        sets ! 3 refl tt (of-opd ! (load ! (from ! (fld ! refl (stop !))) (look-in ! 3 (sub ! 2 refl (cell ! 9 refl)))))
+        sets ! 3 refl tt (of-opd ! (part ! 3 refl refl refl tt))
         (LL.lawful N.the-type N′.the-laws 𝓤 H A W .typed (d .entry) _ (fields-are .1 .1 .0) .0) $
         open-ref ! tt (mem T.the-row) {b = b} {o = o} $ move ! (0 ∷ 4 ∷ []) $
         -- [the table; the locals; the open loan; obs; auth]
@@ -205,7 +205,7 @@ module _ {M : Type 1} (𝓤 : URA M) (H : Heap 𝓤) (A : Atoms 𝓤) (at-mem : 
         (fields-are .1 .1 .0) refl refl $
         move ! (0 ∷ 2 ∷ 3 ∷ 4 ∷ []) $ close-ref ! tt (mem T.the-row) (with-entry h (d .place) (d .entry)) {b = b} {o = o} $
         -- [obs; the loan; its token; the locals]
-        sets ! 3 refl tt (of-opd ! (load ! (from ! (fld ! refl (stop !))) (look-in ! 3 (sub ! 0 refl (cell ! 9 refl)))))
+        sets ! 3 refl tt (of-opd ! (part ! 3 refl refl refl tt))
         (EL.lawful R.the-type R′.the-laws 𝓤 H A W tt .typed (d .answer) _ (fields-are .0) .0) $
         calls-number R.the-row offerNumber ! (fmOf 𝓤 H (W .laws) 𝓣) (EL.makes R.the-type R′.the-plain 𝓤 H A) numbered
         (d .answer) (EL.val R.the-type R′.the-laws (d .answer)) (fields-are .0) (and-then ! (value ! 4 refl refl) (no-more !)) (λ f.

@@ -44,10 +44,10 @@ use Rattle.opening.proofs.empty_table.Symbol as empty-def
 use Rattle.opening.proofs.empty_table.Symbol.{name as #opening·empty-table}
 use Rattle.opening.proofs.empty_table.Met as empty-thm
 use Rattle.rules.specs.Calls.{openAnswer, opened}
-use Rattle.host.proofs.Lent.{machine, lent, loan, number, large, table-opens, table-closes}
-use Rattle.host.proofs.Locals.{cell, enters, freed, keeps, value, sets, receives}
-use Rattle.host.proofs.Walk.{Gives, gives, is-true, is-false, calls-value, tests}
-use Rattle.host.proofs.Number.{Post, exits, loan-meets}
+use Rattle.lent.proofs.Lent.{machine, lent, loan, number, large, table-opens, table-closes}
+use Rattle.lent.proofs.Locals.{cell, enters, freed, keeps, value, sets, receives}
+use Rattle.lent.proofs.Walk.{Gives, gives, is-true, is-false, calls-value, tests}
+use Rattle.lent.proofs.Number.{Post, exits, loan-meets}
 use Rattle.host.proofs.gelmush_open.Key.{name as #host·gelmush-open}
 use Rattle.host.proofs.gelmush_open as lent′
 use Rattle.host.proofs.gelmush_open.Statement as stated

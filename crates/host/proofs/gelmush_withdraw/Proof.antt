@@ -37,11 +37,11 @@ use Rattle.rules.specs.Calls.{places, heldAnswer, withdrawn}
 use Rattle.rules.specs.WellFormed.{WellFormed}
 use Rattle.places.specs.Put.{put-past}
 use Rattle.held.specs.Held.{held-answer, held-freed}
-use Rattle.host.proofs.Lent.{lent, loan}
-use Rattle.host.proofs.Locals.{cell, enters, freed, keeps, value, sets, receives}
-use Rattle.host.proofs.Walk.{tests}
-use Rattle.host.proofs.Entries.{with-entry, typed-entry, entry-reached, entry-written}
-use Rattle.host.proofs.Number.{Post, exits, loan-meets}
+use Rattle.lent.proofs.Lent.{lent, loan}
+use Rattle.lent.proofs.Locals.{cell, enters, freed, keeps, value, sets, receives}
+use Rattle.lent.proofs.Walk.{tests}
+use Rattle.lent.proofs.Entries.{with-entry, typed-entry, entry-reached, entry-written}
+use Rattle.lent.proofs.Number.{Post, exits, loan-meets}
 use Rattle.host.proofs.Search.{Formed, IsPlace, Search, Free, searches-whole, frees-entry}
 use Rattle.host.proofs.place_in.Symbol as search-def
 use Rattle.host.proofs.place_in.Symbol.{name as #host·place-in}

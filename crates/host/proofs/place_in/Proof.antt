@@ -21,8 +21,8 @@ use prog.Wp.{Heap, Out, Env, afterSeq, afterBlock, afterTurn, Wp, atReturn, WpFn
 use ghost.Atoms.{Atoms}
 use contract.Running.{givenOf, tables, tablesOf}
 use types.Kit.{Given, Item, ‵, raw, runs, anyQ, atRet, Sq, ⋆, _$_, _∵_, !, qed, by, move, keep, rewrite}
-use types.Part.{sub, look-in}
-use types.Run.{stop, fld, from, load, lit, of-opd, bin, assigns-last, first, blocks, stays, leaves-loop, returns, returns-within}
+use types.Part.{look-in}
+use types.Run.{stop, from, lit, of-opd, bin, assigns-last, first, blocks, stays, leaves-loop, returns, returns-within}
 use types.Run.{params1, pass1, pass0, exec, Below, again, loops}
 use denote.Laws.{Is}
 use denote.Memory.{pointee}
@@ -39,11 +39,11 @@ use Rattle.model.proofs.Entry.Laws as N′
 use Rattle.model.proofs.Table as T
 use Rattle.places.proofs.Known.{inside, past}
 use Rattle.survey.specs.Search.{isHeldAs, held-by-number, place-nobody}
-use Rattle.host.proofs.Lent.{lent}
-use Rattle.host.proofs.Locals.{locals, cell, enters, freed, forgets, keeps, value, sets}
-use Rattle.host.proofs.Walk.{is-true, is-false, tests}
-use Rattle.host.proofs.Entries.{tableAt, at-place, typed-entry, entry-reached, entry-read}
-use Rattle.host.proofs.Looked.{look as loan, Shared, Post, exits, look-meets, look-opens, look-shuts}
+use Rattle.lent.proofs.Lent.{lent}
+use Rattle.lent.proofs.Locals.{locals, cell, enters, freed, forgets, keeps, value, part, sets}
+use Rattle.lent.proofs.Walk.{is-true, is-false, tests}
+use Rattle.lent.proofs.Entries.{tableAt, at-place, typed-entry, entry-reached, entry-read}
+use Rattle.lent.proofs.Looked.{look as loan, Shared, Post, exits, look-meets, look-opens, look-shuts}
 use Rattle.host.proofs.place_in.Key.{name as #host·place-in}
 use Rattle.host.proofs.place_in as lent′
 use Rattle.host.proofs.place_in.Statement as stated
@@ -113,7 +113,7 @@ module _ {M : Type 1} (𝓤 : URA M) (H : Heap 𝓤) (A : Atoms 𝓤) (W : Given
         entry-reached b o (t .i) ! less (refl, refl, refl, tt, tt, tt, refl, refl, refl, refl) $
         entry-read b o (t .i) ! less refl tt refl s h (λ is.
         sets ! 1 refl tt (of-opd ! (value ! 1 refl refl)) (typed-entry 𝓤 H A W (at-place h (t .i)) is) $
-        sets ! 1 refl tt (bin ! (load ! (from ! (fld ! refl (stop !))) (look-in ! 1 (sub ! 0 refl (cell ! 4 refl)))) (value ! 1 refl refl) tt)
+        sets ! 1 refl tt (bin ! (part ! 1 refl refl refl tt) (value ! 1 refl refl) tt)
         (tt, tt) $
         tests ! (value ! 1 refl refl)
         (λ on.

@@ -32,8 +32,8 @@ use denote.Triple.Walked.{says, Stays, stay-none, stay-none-ref, walkOf, goes-no
 use Rattle.model.specs.declared.Table.{Table}
 use Rattle.model.proofs.Table as T
 use Rattle.model.proofs.Table.Laws as T′
-use Rattle.host.proofs.Lent.{lent, number}
-use Rattle.host.proofs.Entries.{tableAt}
+use Rattle.lent.proofs.Lent.{lent, number}
+use Rattle.lent.proofs.Entries.{tableAt}
 
 abbrev by-look : RattleType → Ended
 by-look R = record {

@@ -22,7 +22,7 @@ use denote.Steps.{owned, nothing}
 use denote.Triple.Spec.{tripleOf}
 use denote.Triple.Statement.{Contract, Triple}
 use denote.Triple.Clauses.{Ended, Clauses, closing, ensured, lasts}
-use Rattle.host.proofs.Walk.{Gives, gives, calls-value}
+use Rattle.lent.proofs.Walk.{Gives, gives, calls-value}
 
 -- of an answer of R, by value, a number
 abbrev by-value : RattleType → Ended

@@ -29,7 +29,7 @@ use denote.Struct.Laws as LL
 use Rattle.model.specs.declared.Table.{Table}
 use Rattle.model.proofs.Table as T
 use Rattle.model.proofs.Table.Laws as T′
-use Rattle.host.proofs.Locals.{type-of, Has, locals, cell, sets}
+use Rattle.lent.proofs.Locals.{type-of, Has, locals, cell, sets}
 
 -- a table's machine value
 abbrev pub machine : Table → Val

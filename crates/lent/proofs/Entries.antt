@@ -40,9 +40,9 @@ use Rattle.model.proofs.Entry as N
 use Rattle.model.proofs.Entry.Laws as N′
 use Rattle.model.proofs.Table as T
 use Rattle.model.proofs.Table.Laws as T′
-use Rattle.host.proofs.Lent.{Typed, typed-as}
-use Rattle.host.proofs.Locals.{type-of, Has, locals, without, cell, forgets, value, sets}
-use Rattle.host.proofs.Walk.{tests}
+use Rattle.lent.proofs.Lent.{Typed, typed-as}
+use Rattle.lent.proofs.Locals.{type-of, Has, locals, without, cell, forgets, value, sets}
+use Rattle.lent.proofs.Walk.{tests}
 
 -- where the entry of place i lies, in a table at the offset o
 abbrev pub entryOffset : ℕ → ℕ → ℕ

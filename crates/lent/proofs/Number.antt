@@ -27,7 +27,7 @@ use denote.Triple.Clauses.{Ended, Clauses, closing}
 use denote.Triple.Walked.{says, Stays, stay-ref, stay-none, walkOf, goes-ref, goes-none, ends-at, walked, walk-meets}
 use Rattle.model.specs.declared.Table.{Table}
 use Rattle.model.proofs.Table as T
-use Rattle.host.proofs.Lent.{lent, loan, Lent, number}
+use Rattle.lent.proofs.Lent.{lent, loan, Lent, number}
 
 abbrev by-loan : Ended
 by-loan = record {

@@ -1,0 +1,1 @@
+// What proofs of functions on a lent table share, in proofs/: no code.
