@@ -52,9 +52,10 @@ archive:
 	@mkdir -p target
 	@rt staticlib host > target/staticlib.log || (cat target/staticlib.log && false)
 
-# The exported calls: case 1 from C, held to its stored rows, and random calls from Rust, held to the second implementation.
+# The exported calls: case 1 from C, held to its stored rows, and random calls from C and from Rust, held to the second implementation.
 bindings: archive
-	@cc -std=c11 -Wall -Wextra -Werror -O2 -Ibindings/c -o target/case1 bindings/c/case1.c target/staticlib/libhost.a
+	@for program in case1 calls; do cc -std=c11 -Wall -Wextra -Werror -O2 -Ibindings/c -o target/$$program bindings/c/$$program.c \
+	    target/staticlib/libhost.a || exit 1; done
 	@target/case1 | diff bindings/c/case1.out -
 	@cargo test --offline --release --quiet --manifest-path bindings/rust/Cargo.toml
 

@@ -1,15 +1,22 @@
-//! Random lists of calls, made on the proved planner and on the second implementation: every answer, every record, every
-//! word of the memory lent and every held entry must be the same.
+//! Random lists of calls, made on the second implementation and on the proved planner, from Rust and from C: every answer,
+//! every record, every word of the memory lent, every held entry and every part of a plan must be the same.
 
 #[path = "../../../reference/tests/common/mod.rs"]
 mod common;
+mod ways;
 
 use std::collections::BTreeSet;
 
 use common::{Style, random_offer};
-use gelmush::{Entry, PLAN_WORDS, RECORD_WORDS, Refused, Shelf};
+use gelmush::{PLAN_WORDS, RECORD_WORDS};
+use reference::Offer;
 use reference::random::Random;
-use reference::{EntryWords, Offer, Table, answer};
+use ways::{Call, Given, Host, Second, Wrapper};
+
+/// How the proved planner is called.
+type Way = fn(&[Call]) -> Vec<Given>;
+
+const WAYS: [(&str, Way); 2] = [("Rust", ways::make_all::<Wrapper>), ("C", ways::program::make_all)];
 
 /// Numbers at the edges of ranges, and any others.
 fn wild(random: &mut Random) -> u32 {
@@ -17,165 +24,106 @@ fn wild(random: &mut Random) -> u32 {
     if random.chance(80) { *random.pick(&EDGES) } else { random.word(0, u32::MAX) }
 }
 
-fn number<T>(outcome: &Result<T, Refused>) -> u32 {
-    outcome.as_ref().err().map_or(0, |refused| refused.0)
+/// A list of calls, and what each gave on the second implementation.
+#[derive(Default)]
+struct List {
+    second: Host<Second>,
+    calls: Vec<Call>,
+    expected: Vec<Given>,
 }
 
-fn ours(offer: &Offer) -> gelmush::Offer {
-    let Offer { stream, kind, period, min, max, life } = *offer;
-    gelmush::Offer { stream, kind, period, min, max, life }
-}
-
-fn theirs(entry: &Entry) -> EntryWords {
-    let Entry { stream, kind, parts, period, min, max, life, life_left, owed, given, left } = *entry;
-    assert!(if kind == 1 { period == 0 } else { parts == 0 });
-    let offer = Offer { stream, kind, period: parts + period, min, max, life };
-    EntryWords { offer, life_left, owed, given, left }
-}
-
-/// The two planners, side by side, and the answers seen so far.
-struct Pair {
-    shelf: Shelf,
-    table: Table,
-    plan: Vec<u32>,
-    count: usize,
-    seen: BTreeSet<u32>,
-}
-
-impl Pair {
-    fn open(units: u32) -> Option<Pair> {
-        let (shelf, table) = (Shelf::open(units), Table::open(units));
-        assert_eq!(number(&shelf), answer(&table), "opening with {units}");
-        Some(Pair {
-            shelf: shelf.ok()?,
-            table: table.ok()?,
-            plan: Vec::new(),
-            count: 0,
-            seen: BTreeSet::new(),
-        })
+impl List {
+    fn add(&mut self, call: Call) {
+        self.expected.push(self.second.make(&call));
+        self.calls.push(call);
     }
 
-    fn same<T>(&mut self, found: &Result<T, Refused>, expected: u32) {
-        assert_eq!(number(found), expected);
-        self.seen.insert(expected);
+    fn of(calls: &[Call]) -> List {
+        let mut list = List::default();
+        calls.iter().for_each(|call| list.add(call.clone()));
+        list
     }
 
-    fn reopen(&mut self, units: u32) {
-        let table = Table::open(units);
-        let again = self.shelf.reopen(units);
-        self.same(&again, answer(&table));
-        if let Ok(table) = table {
-            self.table = table;
-        }
-    }
-
-    fn offer(&mut self, offer: &Offer) {
-        let (found, expected) = (self.shelf.offer(&ours(offer)), answer(&self.table.offer(offer)));
-        self.same(&found, expected);
-    }
-
-    fn withdraw(&mut self, stream: u32) {
-        let (found, expected) = (self.shelf.withdraw(stream), answer(&self.table.withdraw(stream)));
-        self.same(&found, expected);
-    }
-
-    fn beacon(&mut self, random: &mut Random, words: usize) {
-        let mut plan: Vec<u32> = (0..words).map(|_| random.word(0, u32::MAX)).collect();
-        let mut expected = plan.clone();
-        let sent = self.shelf.beacon(&mut plan);
-        let answered = self.table.beacon(&mut expected);
-        self.same(&sent, answered.answer);
-        assert_eq!(sent.unwrap_or(0), answered.count);
-        assert_eq!(plan, expected);
-        (self.plan, self.count) = (plan, answered.count);
-    }
-
-    fn enquire(&mut self, stream: u32) {
-        let (found, expected) = (self.shelf.enquire(stream), self.table.enquire(stream));
-        self.same(&found, expected.answer);
-        assert_eq!(found.map_or(EntryWords::default(), |entry| theirs(&entry)), expected.entry);
-    }
-
-    /// A window over the last plan, whole or damaged.
-    fn window(&mut self, random: &mut Random) {
-        let mut plan = self.plan.clone();
-        let mut count = self.count as u32;
-        if random.chance(30) && !plan.is_empty() {
-            let place = random.between(0, plan.len().min(RECORD_WORDS * self.count + 1) as u64 - 1) as usize;
-            plan[place] = wild(random);
-        }
-        if random.chance(20) {
-            count = if random.chance(50) { wild(random) } else { random.word(0, plan.len() as u32 / 4 + 1) };
-        }
-        let slots = self.table.interval().0 as u32;
-        let mut slot = || if random.chance(20) { wild(random) } else { random.word(0, slots) };
-        let (from, until) = (slot(), slot());
-        let mut answered = u32::MAX;
-        let expected = reference::window(&plan, count, from, until, &mut answered);
-        let part = gelmush::window(&plan, count as usize, from, until);
-        self.same(&part, answered);
-        assert_eq!(part.unwrap_or(&[]), expected);
-    }
-
-    fn call(&mut self, random: &mut Random, style: Style) {
-        match random.between(0, 99) {
-            0..=34 => {
-                let interval = self.table.interval().0;
-                self.offer(&random_offer(random, interval, style));
+    /// Holds the proved planner to it. Gives the answers that were seen.
+    fn compare(&self) -> BTreeSet<u32> {
+        for (name, make_all) in WAYS {
+            let given = make_all(&self.calls);
+            for ((call, given), expected) in self.calls.iter().zip(&given).zip(&self.expected) {
+                assert_eq!(given, expected, "from {name}: {call:?}");
             }
+            assert_eq!(given.len(), self.calls.len(), "from {name}");
+        }
+        self.expected.iter().map(|given| given.answer).collect()
+    }
+
+    fn random_call(&self, random: &mut Random, style: Style) -> Call {
+        match random.between(0, 99) {
+            0..=34 => Call::Offer(random_offer(random, self.second.planner.table().interval().0, style)),
             35..=39 => {
                 let mut word = || wild(random);
-                let offer = Offer {
-                    stream: word(),
-                    kind: word(),
-                    period: word(),
-                    min: word(),
-                    max: word(),
-                    life: word(),
-                };
-                self.offer(&offer);
+                let (stream, kind, period) = (word(), word(), word());
+                Call::Offer(Offer { stream, kind, period, min: word(), max: word(), life: word() })
             }
-            40..=46 => self.withdraw(random.word(0, style.streams + 1)),
-            47 => {
-                let units = wild(random) % 1_003;
-                self.reopen(units);
-            }
+            40..=46 => Call::Withdraw { stream: random.word(0, style.streams + 1) },
+            47 => Call::Open { units: wild(random) % 1_003 },
             48 => {
-                let words = random.between(0, PLAN_WORDS as u64 - 1) as usize;
-                self.beacon(random, words);
+                let most = PLAN_WORDS as u64 - 1;
+                let words = if random.chance(50) { most } else { random.between(0, most) } as usize;
+                Call::Beacon { words, seed: random.word(0, u32::MAX) }
             }
             49..=74 => {
                 let words = PLAN_WORDS + *random.pick(&[0, 0, 0, 1, 5]);
-                self.beacon(random, words);
+                Call::Beacon { words, seed: random.word(0, u32::MAX) }
             }
-            75..=84 => self.window(random),
-            85 => self.enquire(wild(random)),
-            _ => self.enquire(random.word(0, style.streams + 1)),
+            75..=84 => self.random_window(random),
+            85 => Call::Enquire { stream: wild(random) },
+            _ => Call::Enquire { stream: random.word(0, style.streams + 1) },
         }
     }
+
+    /// A window over the last plan, whole or damaged.
+    fn random_window(&self, random: &mut Random) -> Call {
+        let Host { planner, plan, count } = &self.second;
+        let mut damage = Vec::new();
+        while !plan.is_empty() && damage.len() < 3 && random.chance(25) {
+            let last = plan.len().min(RECORD_WORDS * count + 1) as u64 - 1;
+            damage.push((random.between(0, last) as usize, wild(random)));
+        }
+        let count = match random.between(0, 99) {
+            0..=7 => wild(random) as usize,
+            8..=15 => random.between(0, plan.len() as u64 / 4 + 1) as usize,
+            // Four times a count past 62 bits is a small number in 64.
+            16..=19 => count + (1 << random.between(32, 63)),
+            _ => *count,
+        };
+        let slots = planner.table().interval().0 as u32;
+        let mut slot = || if random.chance(20) { wild(random) } else { random.word(0, slots) };
+        Call::Window { count, from: slot(), until: slot(), damage }
+    }
+}
+
+fn random_list(random: &mut Random) -> List {
+    let mut list = List::default();
+    list.add(Call::Open { units: *random.pick(&[1, 1, 1, 2, 3, 7, 15, 63, 100, 990, 1_000]) });
+    let (life, thin) = *random.pick(&[(1, 2), (4, 10), (12, 40), (60, 1_000)]);
+    let style = Style { streams: random.word(1, 60), life, thin };
+    if random.chance(10) {
+        // Nearly every place is taken, and hardly any time.
+        (101..=131).for_each(|stream| {
+            list.add(Call::Offer(Offer { stream, kind: 1, period: 2, min: 1, max: 1, life: 9 }));
+        });
+    }
+    for _ in 0..150 {
+        list.add(list.random_call(random, style));
+    }
+    (0..=style.streams + 1).for_each(|stream| list.add(Call::Enquire { stream }));
+    list
 }
 
 #[test]
 fn random_calls() {
     let mut random = Random::new(701);
-    let mut seen = BTreeSet::new();
-    for _ in 0..700 {
-        let units = *random.pick(&[1, 1, 1, 2, 3, 7, 15, 63, 100, 990, 1_000]);
-        let (life, thin) = *random.pick(&[(1, 2), (4, 10), (12, 40), (60, 1_000)]);
-        let style = Style { streams: random.word(1, 60), life, thin };
-        let mut pair = Pair::open(units).unwrap();
-        if random.chance(10) {
-            // Nearly every place is taken, and hardly any time.
-            (101..=131).for_each(|stream| {
-                pair.offer(&Offer { stream, kind: 1, period: 2, min: 1, max: 1, life: 9 });
-            });
-        }
-        for _ in 0..150 {
-            pair.call(&mut random, style);
-        }
-        (0..=style.streams + 1).for_each(|stream| pair.enquire(stream));
-        seen.extend(pair.seen);
-    }
+    let seen: BTreeSet<u32> = (0..700).flat_map(|_| random_list(&mut random).compare()).collect();
     let every = [0, 1, 10, 11, 12, 13, 14, 15, 16, 17, 20, 30, 40, 41, 42];
     assert_eq!(seen, BTreeSet::from(every));
 }
@@ -183,15 +131,37 @@ fn random_calls() {
 #[test]
 fn openings() {
     for units in [0, 1, 2, 999, 1_000, 1_001, 65_536, u32::MAX] {
-        assert_eq!(Pair::open(units).is_some(), (1..=1_000).contains(&units));
+        let seen = List::of(&[Call::Open { units }]).compare();
+        assert_eq!(seen, BTreeSet::from([u32::from(!(1..=1_000).contains(&units))]));
     }
 }
 
 #[test]
 fn counts_past_32_bits() {
-    let plan = [0; 4];
-    for count in [1 << 32, 1 << 62, usize::MAX] {
-        assert_eq!(gelmush::window(&plan, count, 0, 1), Err(Refused(40)));
+    let offer = Offer { stream: 5, kind: 1, period: 2, min: 100, max: 100, life: 1 };
+    let beacon = Call::Beacon { words: PLAN_WORDS, seed: 0 };
+    let mut list = List::of(&[Call::Open { units: 1 }, Call::Offer(offer), beacon]);
+    for (count, answer) in [(2, 0), (1 << 32, 40), ((1 << 32) + 2, 40), ((1 << 62) + 2, 40), (usize::MAX, 40)]
+    {
+        list.add(Call::Window { count, from: 0, until: 1_024, damage: Vec::new() });
+        assert_eq!(list.expected.last().map(|given| given.answer), Some(answer));
     }
-    assert_eq!(gelmush::window(&plan, 1, 0, 1), Ok(&plan[..]));
+    list.compare();
+}
+
+#[test]
+fn from_c_no_call_before_an_opening() {
+    let calls = [
+        Call::Offer(Offer::default()),
+        Call::Withdraw { stream: 1 },
+        Call::Enquire { stream: 1 },
+        Call::Beacon { words: PLAN_WORDS, seed: 0 },
+        Call::Window { count: 0, from: 0, until: 0, damage: Vec::new() },
+    ];
+    for call in calls {
+        let output = ways::program::run(&[Call::Open { units: 0 }, call]);
+        assert!(!output.status.success());
+        assert_eq!(String::from_utf8_lossy(&output.stdout), "1 0 0\n");
+        assert_eq!(String::from_utf8_lossy(&output.stderr), "calls: line 2: no table is open\n");
+    }
 }
