@@ -24,12 +24,13 @@ use Rattle.rules.specs.Ahead.{fitsAhead}
 use Rattle.rules.specs.Calls.{places, heldOf, holds, offerAnswer, placed, offered}
 use Rattle.rules.specs.WellFormed.{WellFormed}
 use Rattle.laws.specs.Refusals.{refused-offer}
-use Rattle.laws.specs.Offers.{Numbered, refusal-none, none-refusal, refusal-stops, fields-numbered, offerChecksBut, checks-passed, isFull, fits}
+use Rattle.laws.specs.Offers.{Numbered, refusal-none, none-refusal, refusal-stops}
+use Rattle.laws.specs.Offers.{fields-numbered, offerChecksBut, checks-passed, isFull, fits}
 use Rattle.laws.specs.Offers.{offer-refused, offer-passed}
 use Rattle.laws.specs.Places.{Tidy, formed-tidy}
 use Rattle.ahead.specs.Formed.{passed-together, placed-tidy, placed-ahead}
 use Rattle.ahead.specs.Even.{evenly, even-ahead}
-use Rattle.survey.specs.Needed.{evenNeed, needs-places}
+use Rattle.even.specs.Need.{evenNeed, needs-places}
 use Rattle.survey.specs.Search.{isFree, place-full, place-taken}
 use Rattle.places.specs.Put.{withEntries, putIn, put-past}
 

@@ -62,9 +62,7 @@ pub fn decide(t: Table, q: Request) -> Decision
             entry: e,
         };
     }
-    let mut new = t;
-    new.entries[at] = e;
-    if !lookahead::fits_ahead(new) {
+    if !lookahead::fits_ahead(t, s.used, at, e) {
         return refused(OfferAnswer::NoTime);
     }
     Decision {

@@ -1,33 +1,32 @@
--- Looking ahead by leaps: until the nearest end of a life or of a period nobody leaves and nobody's period begins anew, so the intervals
--- up to there are served as one, with the slots of all of them; and looking ahead says after them what it said before. Assumes nothing.
+-- Intervals in which nothing ends, served as one: until the nearest end of a life or of a period nobody leaves and nobody's period begins
+-- anew, so the intervals up to there are served with the slots of all of them; and looking ahead says after them what it said before.
+-- Assumes nothing.
 use mathlib.Core.Path.{_≡_, refl, sym, ap, ap₂, subst, _∙_}
 use mathlib.Core.Logic.{⊎-elim}
 use mathlib.Core.Bool.{Bool, true, false, cond, _&&_}
-use mathlib.Core.List.{List, [], _∷_, map, map-id}
+use mathlib.Core.List.{List, [], _∷_, map, map-id, map-map}
 use Prim.Native.Nat.{ℕ, zero, suc, _*_, _-_, _≤_, _<_}
 use native.Mathlib.Omega.{arith}
 use lib.Dec.{eqb, ltb}
 use lib.ListN.{length, length-map}
-use borrow.Author.Tests.{ne-eqb}
-use Rattle.lists.specs.Lists.{cons-if, keep, mostOf, anyOf}
+use borrow.Author.Tests.{eq-eqb, ne-eqb}
+use Rattle.lists.specs.Lists.{cons-if, keep, anyOf}
 use Rattle.lists.specs.Tests.{clash}
-use Rattle.lists.specs.All.{All, all-map, all-zip, all-both, all-of, all-of-map, map-ext, none-any}
+use Rattle.lists.specs.All.{All, all-map, all-zip, all-of, all-of-map, map-ext, none-any}
 use Rattle.lists.specs.Sums.{sum-map}
 use Rattle.model.specs.Entries.{freeEntry, isHeld, isKind, isPiece}
 use Rattle.model.specs.declared.Entry.{Entry}
 use Rattle.model.specs.declared.Table.{Table}
 use Rattle.rules.specs.Share.{slotsFor, load, overfull, capacity, stepB}
-use Rattle.rules.specs.Ahead.{passed, stepF, misses, fitsAhead}
+use Rattle.rules.specs.Ahead.{passed, renewed, settled, stepF, misses, fitsAhead}
 use Rattle.rules.specs.Calls.{heldOf}
 use Rattle.rules.specs.WellFormed.{Held}
 use Rattle.laws.specs.Grants.{slots-none}
 use Rattle.laws.specs.Held.{Fraction, Piece, held-kinds, piece-of, not-fraction, fraction-not}
 use Rattle.laws.specs.Settled.{after, after-free}
-use Rattle.laws.specs.Settled.{FractionFate, ended, ages, fraction-fate, PieceFate, over, anew, on, piece-fate}
 use Rattle.laws.specs.Turns.{stepBOf}
 use Rattle.laws.specs.Places.{Tidy, tidy-held}
 use Rattle.laws.specs.Closed.{takes, takes-owed, takes-most, takes-held, at-places}
-use Rattle.ahead.specs.Moved.{lifeOf}
 use Rattle.ahead.specs.Loop.{lookedPast, past-tidy, ahead-turn}
 use Rattle.ahead.specs.Served.{later, served, Lasts, standing-same, served-more}
 
@@ -39,35 +38,48 @@ eventIn e = cond (isPiece e) (e .left .0) (e .«life_left» .0)
 abbrev pub Quiet : ℕ → Table → Type 0
 Quiet n t = All (λ e. n < eventIn e) (heldOf t)
 
--- ---- one entry, one interval
-module _ {B : ℕ} {e : Entry} (b : ℕ) (k : b ≤ e .owed .0) (q : 1 < eventIn e) where
-  fraction-later : Fraction B e → after b 0 e ≡ later 1 b e
-  fraction-later f = go (fraction-fate b 0 f)
-    where
-      life : eventIn e ≡ e .«life_left» .0
-      life = ap (λ x. cond x (e .left .0) (e .«life_left» .0)) (fraction-not e (f .kind))
+-- ---- one entry
+-- the interval before what ends with it
+passed-later : {B : ℕ} (e : Entry) (b : ℕ) → b ≤ e .owed .0 → Held B e → passed b 0 e ≡ later 1 b e
+unfolding passed
+passed-later {B} e b k h = ⊎-elim fraction piece (held-kinds h)
+  where
+    fraction : Fraction B e → passed b 0 e ≡ later 1 b e
+    fraction f =
+        standing-same e refl (none _ (omega (arith, f .owed))) (none _ (omega (arith, f .owed, f .given)))
+        (none _ (omega (arith, f .left)))
+      where
+        none : (x : ℕ) {y : ℕ} → y ≡ 0 → cond (isKind 1 e) 0 x ≡ y
+        none x z = rw (eq-eqb (e .kind) 1 (f .kind)) (sym z)
 
-      go : FractionFate b 0 e → after b 0 e ≡ later 1 b e
-      go (ended l z) = absurd (omega (arith, life))
-      go (ages l z) = z ∙ standing-same e refl (omega (arith, f .owed)) (omega (arith, f .owed)) (omega (arith, f .left))
+    piece : Piece B e → passed b 0 e ≡ later 1 b e
+    piece p = standing-same e refl (same refl) (same (omega arith)) (same refl)
+      where
+        same : {x y : ℕ} → x ≡ y → cond (isKind 1 e) 0 x ≡ y
+        same {x} z = ap (λ v. cond v 0 x) (not-fraction e (p .kind)) ∙ z
 
-  piece-later : Piece B e → after b 0 e ≡ later 1 b e
-  unfolding passed
-  piece-later p = go (piece-fate b 0 p)
-    where
-      soon : eventIn e ≡ e .left .0
-      soon = ap (λ x. cond x (e .left .0) (e .«life_left» .0)) (piece-of e (p .kind))
+-- where neither a life nor a period is over nothing ends
+settled-on : (e : Entry) → 1 ≤ e .«life_left» .0 → (isPiece e ≡ true → 1 ≤ e .left .0) → settled e ≡ e
+unfolding settled
+settled-on e l k = rw (ne-eqb (e .«life_left» .0) 0 (λ z. omega arith)) (go (isKind 2 e) refl)
+  where
+    go : (b : Bool) → isKind 2 e ≡ b → cond (b && eqb (e .left .0) 0) (renewed e) e ≡ e
+    go true h = rw (ne-eqb (e .left .0) 0 (λ z. omega (arith, k (rw h)))) refl
+    go false h = refl
 
-      same : {x y : ℕ} → x ≡ y → cond (isKind 1 e) 0 x ≡ y
-      same {x} h = ap (λ z. cond z 0 x) (not-fraction e (p .kind)) ∙ h
+pub later-on : {B : ℕ} (n b : ℕ) (e : Entry) → Held B e → n < eventIn e → settled (later n b e) ≡ later n b e
+later-on {B} n b e h q = ⊎-elim fraction piece (held-kinds h)
+  where
+    fraction : Fraction B e → settled (later n b e) ≡ later n b e
+    fraction f =
+        let other = fraction-not e (f .kind) in
+        settled-on (later n b e) (omega (arith, ap (λ x. cond x (e .left .0) (e .«life_left» .0)) other))
+        (λ z. absurd (clash (isPiece e) z other))
 
-      go : PieceFate b 0 p → after b 0 e ≡ later 1 b e
-      go (over l a j z) = absurd (omega (arith, soon))
-      go (anew j m l f z) = absurd (omega (arith, soon))
-      go (on l el z) = z ∙ standing-same e refl (same refl) (same (omega arith)) (same refl)
-
-  after-later : Held B e → after b 0 e ≡ later 1 b e
-  after-later h = ⊎-elim fraction-later piece-later (held-kinds h)
+    piece : Piece B e → settled (later n b e) ≡ later n b e
+    piece p =
+        let soon = ap (λ x. cond x (e .left .0) (e .«life_left» .0)) (piece-of e (p .kind)) in
+        settled-on (later n b e) (omega (arith, soon, p .lives)) (λ z. omega (arith, soon))
 
 pub later-free : (n c : ℕ) (ps : List Entry) → later n (takes c ps freeEntry) freeEntry ≡ freeEntry
 later-free n c ps =
@@ -75,11 +87,15 @@ later-free n c ps =
     standing-same freeEntry (omega arith) (omega arith) (omega arith) (omega arith)
 
 -- ---- a table n intervals on: E slots in each
-abbrev E : Table → ℕ
+abbrev pub E : Table → ℕ
 E t = capacity (t .interval .0) (heldOf t)
 
 abbrev pub skipped : ℕ → Table → Table
 skipped n t = record { interval = t .interval; entries = served n (n * E t) (t .entries) }
+
+-- and then what is over ends
+abbrev pub ended : ℕ → Table → Table
+ended n t = record { interval = t .interval; entries = map settled (served n (n * E t) (t .entries)) }
 
 -- the places stay held or free
 keep-map : {A : Type 0} (p : A → Bool) (f : A → A) (xs : List A) → ((x : A) → p (f x) ≡ p x) → keep p (map f xs) ≡ map f (keep p xs)
@@ -91,10 +107,10 @@ keep-map p f (x ∷ xs) h = ap₂ (λ b l. cons-if b (f x) l) (h x) (keep-map p 
     go false = refl
 
 module _ (n : ℕ) (t : Table) where
-  abbrev on-by : Entry → Entry
+  abbrev pub on-by : Entry → Entry
   on-by e = later n (takes (n * E t) (t .entries) e) e
 
-  skipped-held : heldOf (skipped n t) ≡ map on-by (heldOf t)
+  pub skipped-held : heldOf (skipped n t) ≡ map on-by (heldOf t)
   skipped-held = keep-map isHeld on-by (t .entries) (λ e. refl)
 
   pub skipped-length : length (heldOf (skipped n t)) ≡ length (heldOf t)
@@ -107,15 +123,7 @@ module _ (n : ℕ) (t : Table) where
   pub skipped-capacity : E (skipped n t) ≡ E t
   skipped-capacity = ap (λ v. t .interval .0 - v) skipped-load
 
-  -- no life grows
-  pub skipped-most : mostOf lifeOf (heldOf (skipped n t)) ≤ mostOf lifeOf (heldOf t)
-  skipped-most = rw skipped-held (go (heldOf t))
-    where
-      go : (es : List Entry) → mostOf lifeOf (map on-by es) ≤ mostOf lifeOf es
-      go [] = omega arith
-      go (e ∷ es) = omega (arith, go es)
-
-pub skipped-none : (t : Table) → skipped 0 t ≡ t
+skipped-none : (t : Table) → skipped 0 t ≡ t
 skipped-none t = ap (λ ps. record { interval = t .interval; entries = ps })
     (map-ext (on-by 0 t) (λ e. e) (all-of (t .entries) one) ∙ map-id (t .entries))
   where
@@ -125,14 +133,15 @@ skipped-none t = ap (λ ps. record { interval = t .interval; entries = ps })
         standing-same e (omega arith) (omega arith) (omega arith) (omega arith)
 
 -- ---- one interval, and then the others
-module _ (t : Table) (w : Tidy t) (q : Quiet 1 t) where
-  past-skipped : lookedPast t ≡ skipped 1 t
-  unfolding stepF
-  past-skipped = ap (λ ps. record { interval = t .interval; entries = ps })
-      (map-ext (λ e. after (stepBOf B es e) (slotsFor (e .stream) []) e) (on-by 1 t)
-      (at-places t w (λ e. after (stepBOf B es e) (slotsFor (e .stream) []) e ≡ on-by 1 t e)
-      (after-free _ _ ∙ sym (later-free 1 (1 * E t) (t .entries)))
-      (all-zip one (tidy-held w) (all-both q (takes-held t w)))))
+module _ (t : Table) (w : Tidy t) where
+  pub past-ended : lookedPast t ≡ ended 1 t
+  unfolding stepF settled
+  past-ended = ap (λ ps. record { interval = t .interval; entries = ps })
+      (map-ext (λ e. after (stepBOf B es e) (slotsFor (e .stream) []) e) (λ e. settled (on-by 1 t e))
+      (at-places t w (λ e. after (stepBOf B es e) (slotsFor (e .stream) []) e ≡ settled (on-by 1 t e))
+      (after-free _ _ ∙ sym (ap settled (later-free 1 (1 * E t) (t .entries))))
+      (all-zip one (tidy-held w) (takes-held t w)))
+      ∙ sym (map-map settled (on-by 1 t) (t .entries)))
     where
       B : ℕ
       B = t .interval .0
@@ -140,11 +149,21 @@ module _ (t : Table) (w : Tidy t) (q : Quiet 1 t) where
       es : List Entry
       es = heldOf t
 
-      one : (e : Entry) → Held B e → (1 < eventIn e) × (stepBOf B es e ≡ takes (E t) (t .entries) e)
-          → after (stepBOf B es e) (slotsFor (e .stream) []) e ≡ on-by 1 t e
+      one : (e : Entry) → Held B e → stepBOf B es e ≡ takes (E t) (t .entries) e
+          → after (stepBOf B es e) (slotsFor (e .stream) []) e ≡ settled (on-by 1 t e)
       one e h k =
-          ap₂ (λ b c. after b c e) (k .1 ∙ ap (λ c. takes c (t .entries) e) (omega arith)) (slots-none (e .stream))
-          ∙ after-later (takes (1 * E t) (t .entries) e) (takes-owed (1 * E t) (t .entries) e) (k .0) h
+          ap₂ (λ b c. after b c e) (k ∙ ap (λ c. takes c (t .entries) e) (omega arith)) (slots-none (e .stream))
+          ∙ ap settled (passed-later e (takes (1 * E t) (t .entries) e) (takes-owed (1 * E t) (t .entries) e) h)
+
+module _ (t : Table) (w : Tidy t) (q : Quiet 1 t) where
+  past-skipped : lookedPast t ≡ skipped 1 t
+  unfolding settled
+  past-skipped = past-ended t w ∙ ap (λ ps. record { interval = t .interval; entries = ps })
+      (map-map settled (on-by 1 t) (t .entries)
+      ∙ map-ext (λ e. settled (on-by 1 t e)) (on-by 1 t)
+      (at-places t w (λ e. settled (on-by 1 t e) ≡ on-by 1 t e)
+      (ap settled (later-free 1 (1 * E t) (t .entries)) ∙ sym (later-free 1 (1 * E t) (t .entries)))
+      (all-zip (λ e h k. later-on 1 (takes (1 * E t) (t .entries) e) e h k) (tidy-held w) q)))
 
   lasts : All (Lasts 1) (t .entries)
   lasts = at-places t w (Lasts 1) (λ z. absurd (clash false z refl)) (all-map one q)

@@ -5,5 +5,6 @@ pub mod Tables
 pub mod Loop
 pub mod Served
 pub mod Leap
+pub mod Ends
 pub mod Formed
 pub mod Even

@@ -4,7 +4,7 @@
 use mathlib.Core.Path.{_≡_, refl, sym, ap, ap₂, _∙_}
 use mathlib.Core.Bool.{true, false, cond, _||_}
 use mathlib.Core.List.{List, [], _∷_}
-use Prim.Native.Nat.{ℕ, suc, _-_, _≤_, _<_}
+use Prim.Native.Nat.{ℕ, suc, _-_, _≤_}
 use native.Mathlib.Omega.{arith}
 use lib.ListN.{length}
 use Rattle.lists.specs.Lists.{mostOf, anyOf}
@@ -56,10 +56,6 @@ module _ (t : Table) (w : Tidy t) (l : 1 ≤ length (heldOf t)) where
 
   past-most : mostOf lifeOf past ≡ mostOf lifeOf es - 1
   past-most = ap (mostOf lifeOf) (past-held t w) ∙ moved-most B [] es (tidy-together w) (no-extras B es (w .once))
-
-  -- the longest life falls, so that the loop ends
-  pub ahead-less : mostOf lifeOf past < mostOf lifeOf es
-  ahead-less = omega (arith, past-most, held-lives es (tidy-held w) l)
 
   -- the test of this interval, and looking ahead from the next
   pub ahead-step : fitsAhead B es ≡ cond (overfull B es || anyOf (misses (stepB B es)) es) false (fitsAhead B past)

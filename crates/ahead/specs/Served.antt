@@ -138,22 +138,24 @@ abbrev pub Lasts : ℕ → Entry → Type 0
 Lasts n e = isPiece e ≡ true → n ≤ e .left .0
 
 -- at the places of a table, of which those that are owed something are pieces
-module _ (t : Table) (w : Tidy t) (n c : ℕ) (q : All (Lasts n) (t .entries)) where
-  abbrev ps : List Entry
-  ps = t .entries
-
-  takes-places : (f : Entry) → takes c ps f ≡ takes c (heldOf t) f
+module _ (t : Table) (w : Tidy t) (c : ℕ) where
+  takes-places : (f : Entry) → takes c (t .entries) f ≡ takes c (heldOf t) f
   unfolding takes
   takes-places f = ap (λ v. min (f .owed .0) (c - v)) (owed-places t w f)
 
-  before-places : (x : Entry) → sumOf (λ f. cond (isPiece f) (cond (sooner f x) (takes c ps f) 0) 0) ps ≡ min c (owedBefore x ps)
+  pub before-places : (x : Entry) → sumOf (λ f. cond (isPiece f) (cond (sooner f x) (takes c (t .entries) f) 0) 0) (t .entries)
+      ≡ min c (owedBefore x (t .entries))
   before-places x =
-      sum-same (λ f. cond (isPiece f) (cond (sooner f x) (takes c ps f) 0) 0)
-      (λ f. cond (isPiece f) (cond (sooner f x) (takes c (heldOf t) f) 0) 0) ps
+      sum-same (λ f. cond (isPiece f) (cond (sooner f x) (takes c (t .entries) f) 0) 0)
+      (λ f. cond (isPiece f) (cond (sooner f x) (takes c (heldOf t) f) 0) 0) (t .entries)
       (λ f. ap (λ v. cond (isPiece f) (cond (sooner f x) v 0) 0) (takes-places f))
       ∙ held-sum (λ f. cond (isPiece f) (cond (sooner f x) (takes c (heldOf t) f) 0) 0) refl (w .entries)
       ∙ before-total c (heldOf t) (w .once) x
       ∙ ap (min c) (sym (owed-places t w x))
+
+module _ (t : Table) (w : Tidy t) (n c : ℕ) (q : All (Lasts n) (t .entries)) where
+  abbrev ps : List Entry
+  ps = t .entries
 
   -- what is owed to those before x falls by the c slots
   later-before : (b : ℕ) (x : Entry) → n ≤ x .left .0 → owedBefore (later n b x) (served n c ps) ≡ owedBefore x ps - c
@@ -163,7 +165,7 @@ module _ (t : Table) (w : Tidy t) (n c : ℕ) (q : All (Lasts n) (t .entries)) w
         sum-map (λ (f : Entry). cond (isPiece f) (cond (sooner f (later n b x)) (f .owed .0) 0) 0) (λ f. later n (takes c ps f) f) ps,
         sum-add owes has ps,
         sum-ext (λ f. owes f + has f) (λ (f : Entry). cond (isPiece f) (cond (sooner f x) (f .owed .0) 0) 0) (all-map one q),
-        before-places x,
+        before-places t w c x,
       )
     where
       owes : Entry → ℕ
@@ -193,7 +195,7 @@ module _ (t : Table) (w : Tidy t) (n c : ℕ) (q : All (Lasts n) (t .entries)) w
       (all-map (λ e h. ⊎-elim (λ f. inl (f .owed)) (λ p. inr (piece-of e (p .kind))) (held-kinds h)) (tidy-held w))
 
   -- of c slots and then of d an entry takes what it takes of c + d
-  takes-more : (d : ℕ) → All (λ e. takes c ps e + takes d (served n c ps) (later n (takes c ps e) e) ≡ takes (c + d) ps e) ps
+  pub takes-more : (d : ℕ) → All (λ e. takes c ps e + takes d (served n c ps) (later n (takes c ps e) e) ≡ takes (c + d) ps e) ps
   unfolding takes
   takes-more d = all-zip one q owed-piece
     where

@@ -1,10 +1,11 @@
 // What an even share of every interval takes of one interval: kind 1 what its jobs need, a piece the same slots in each interval up to its
 // deadline. Where an interval has room for that, every entry is served in time, and no interval need be looked at.
 ghost use mathlib.Core.Path.{_≡_};
-ghost use Prim.Native.Nat.{_+_, _≤_};
+ghost use Prim.Native.Nat.{_+_, _≤_, max};
 ghost use Rattle.ahead.specs.Even.{upward, evenly};
 ghost use Rattle.amounts.specs.Amounts.{loadOf};
 ghost use Rattle.even.specs.Need.{evenNeed};
+ghost use Rattle.even.specs.Needs.{steadily, evenNeeds, Shared};
 use model::Entry;
 
 // a over b, rounded up.
@@ -45,4 +46,46 @@ pub fn need_of(e: Entry) -> u64
         return amounts::load_of(e);
     }
     even_slots(e)
+}
+
+// ---- by the figures of the places, as looking ahead keeps them
+// What each later period takes of an interval; where there is none, the period is 0, and the amount is what each interval takes.
+fn steady(period: u32, amount: u32) -> u64
+    ensures { λ r. ⌜ (r ≡ steadily period amount) × (r ≤ 8589934590) ⌝ }
+{
+    if period == 0 {
+        return amount as u64;
+    }
+    upward(amount, period)
+}
+
+// So many slots of each interval serve a place in time: what it is owed up to its end, and what it takes later.
+fn needed(owed: u32, left: u32, amount: u32, period: u32) -> u64
+    ensures { λ r. ⌜ (r ≡ max (upward owed left) (steadily period amount)) × (r ≤ 8589934590) ⌝ }
+{
+    let by_end = upward(owed, left);
+    let later = steady(period, amount);
+    if by_end < later {
+        return later;
+    }
+    by_end
+}
+
+// What an even share takes of an interval. Times count from where looking ahead began, and `at` is one, the time at hand.
+pub fn needs_of(
+    owed: &[u32; 32],
+    ends: &[u32; 32],
+    amounts: &[u32; 32],
+    periods: &[u32; 32],
+    used: usize,
+    at: u32,
+) -> u64
+    requires { ⌜ Shared (now owed) (now ends) (now amounts) (now periods) used at ⌝ }
+    ensures { λ r. ⌜ r ≡ evenNeeds at (now (owed .entry)) (now (ends .entry)) (now (amounts .entry)) (now (periods .entry)) ⌝ }
+{
+    let mut needs: u64 = 0;
+    for i in 0..used {
+        needs = needs + needed(owed[i], ends[i] - at, amounts[i], periods[i]);
+    }
+    needs
 }

@@ -2,7 +2,7 @@
 use mathlib.Core.Path.{_≡_, refl, ap₂}
 use mathlib.Core.Bool.{Bool, true, false, cond, _||_}
 use mathlib.Core.List.{List, [], _∷_, _++_, map}
-use Prim.Native.Nat.{ℕ, zero, suc, _≤_, _<_}
+use Prim.Native.Nat.{ℕ, zero, suc, _≤_, _<_, zero-le, suc-le-suc}
 use native.Mathlib.Omega.{arith}
 use lib.ListN.{length, getD, take, replicate}
 use Rattle.lists.specs.Lists.{cons-if, keep, mostOf, anyOf, insert, sort, concatMap}
@@ -44,6 +44,10 @@ module _ {A : Type 0} where
   all-cons-if : {P : A → Type 0} (b : Bool) (x : A) (xs : List A) → (b ≡ true → P x) → All P xs → All P (cons-if b x xs)
   all-cons-if true x xs f h = and (f refl) h
   all-cons-if false x xs f h = h
+
+  pub at-all : (P : A → Type 0) (xs : List A) (d : A) → ((i : ℕ) → i < length xs → P (getD xs i d)) → All P xs
+  at-all P [] d h = stop
+  at-all P (x ∷ xs) d h = and (h zero (suc-le-suc zero-le)) (at-all P xs d (λ i l. h (suc i) (suc-le-suc l)))
 
   pub all-keep : {P Q : A → Type 0} (p : A → Bool) {xs : List A} → ((x : A) → p x ≡ true → P x → Q x) → All P xs → All Q (keep p xs)
   all-keep p f stop = stop

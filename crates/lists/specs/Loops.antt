@@ -7,7 +7,7 @@ use Prim.Native.Nat.{ℕ, zero, suc, _+_, _≤_, _<_}
 use native.Mathlib.Nat.{not-suc-le-zero, le-of-suc-le-suc}
 use native.Mathlib.Numerals.{add-one}
 use native.Mathlib.Omega.{arith}
-use lib.ListN.{length, take, drop, set, getD, length-set, drop-of-length-le}
+use lib.ListN.{length, take, drop, set, getD, length-set}
 use lib.Seq.{take-suc, take-suc-set, take-all, drop-cons, set-split}
 use Rattle.lists.specs.Lists.{cons-if, one-if, keep, sumOf, anyOf}
 use Rattle.lists.specs.All.{All, stop, and}
@@ -30,13 +30,6 @@ pub map-at : {A B : Type 0} (f : A → B) (xs : List A) (i : ℕ) (d : A) (e : B
 map-at f [] i d e h = absurd (not-suc-le-zero h)
 map-at f (x ∷ xs) zero d e h = refl
 map-at f (x ∷ xs) (suc i) d e h = map-at f xs i d e (le-of-suc-le-suc h)
-
--- two maps of the same elements, and what is made of each and its element
-pub map-with : {A B C : Type 0} (h : B → A → C) (f g : A → B) (xs : List A) → map f xs ≡ map g xs
-    → map (λ x. h (f x) x) xs ≡ map (λ x. h (g x) x) xs
-map-with h f g [] e = refl
-map-with h f g (x ∷ xs) e =
-    ap₂ (λ y l. y ∷ l) (ap (λ b. h b x) (ap (λ l. getD l 0 (f x)) e)) (map-with h f g xs (ap (drop 1) e))
 
 -- ---- a loop that replaces each element
 module _ {A : Type 0} (f : A → A) where
@@ -108,21 +101,6 @@ module _ {A : Type 0} (f : A → ℕ) where
 
   pub summed-all : (xs : List A) (i : ℕ) → length xs ≤ i → summed i xs ≡ sumOf f xs
   summed-all xs i h = ap (sumOf f) (take-all i xs h)
-
--- ---- a loop that stops at the first element that passes a test: what is left has one exactly where v says so
-module _ {A : Type 0} (p : A → Bool) (xs : List A) (i : ℕ) {v : Bool} (w : anyOf p (drop i xs) ≡ v) where
-  -- the test of an element and what the code found it to be
-  any-next : {b c : Bool} (d : A) → i < length xs → b ≡ p (getD xs i d) → b ≡ c → (c || anyOf p (drop (i + 1) xs)) ≡ v
-  any-next d h q r = ap (λ a. a || anyOf p (drop (i + 1) xs)) (sym r ∙ q) ∙ sym (ap (anyOf p) (left-next xs i d h)) ∙ w
-
-  pub any-found : {b : Bool} (d : A) → i < length xs → b ≡ p (getD xs i d) → b ≡ true → true ≡ v
-  any-found d h q r = any-next d h q r
-
-  pub any-passed : {b : Bool} (d : A) → i < length xs → b ≡ p (getD xs i d) → b ≡ false → anyOf p (drop (i + 1) xs) ≡ v
-  any-passed d h q r = any-next d h q r
-
-  pub any-ended : length xs ≤ i → false ≡ v
-  any-ended h = sym (ap (anyOf p) (drop-of-length-le xs h)) ∙ w
 
 -- ---- a search that goes on to the end: whether one of the first i elements passes, and of one more
 module _ {A : Type 0} (p : A → Bool) where

@@ -1,15 +1,14 @@
 -- Loops that stop before the end of an array, since all that is left there is spare: the same element again and again, to which the
 -- loop would do nothing. Assumes nothing.
 use mathlib.Core.Path.{_≡_, refl, sym, ap, ap₂, subst, _∙_}
-use mathlib.Core.Bool.{Bool, false, _||_}
 use mathlib.Core.List.{List, [], _∷_, _++_, map}
-use Prim.Native.Nat.{ℕ, zero, suc, _+_, _-_, _≤_, _<_, zero-le}
+use Prim.Native.Nat.{ℕ, zero, suc, _+_, _-_, _≤_, _<_, zero-le, suc-le-suc}
 use native.Mathlib.Nat.{not-suc-le-zero, le-of-suc-le-suc}
 use native.Mathlib.Numerals.{add-one}
 use native.Mathlib.Omega.{arith}
 use lib.ListN.{length, take, drop, set, getD, replicate, length-drop, drop-of-length-le}
-use Rattle.lists.specs.Lists.{sumOf, anyOf}
-use Rattle.lists.specs.All.{All, stop, and}
+use Rattle.lists.specs.Lists.{sumOf}
+use Rattle.lists.specs.All.{All, stop, and, at-all}
 
 module _ {A : Type 0} (d : A) where
   -- from place n on each is d
@@ -31,6 +30,18 @@ module _ {A : Type 0} (d : A) where
   pub spare-more : (n i : ℕ) (xs : List A) (z : A) → i < length xs → getD xs i z ≡ d → Spare n (take i xs) → Spare n (take (i + 1) xs)
   spare-more n i xs z l e h = rw add-one (spare-suc n i xs z l e h)
 
+  pub spare-at : (n i : ℕ) (xs : List A) (z : A) → Spare n xs → n ≤ i → i < length xs → getD xs i z ≡ d
+  spare-at n i [] z h k l = absurd (not-suc-le-zero l)
+  spare-at zero zero (x ∷ xs) z (and e h) k l = e
+  spare-at zero (suc i) (x ∷ xs) z (and e h) k l = spare-at zero i xs z h zero-le (le-of-suc-le-suc l)
+  spare-at (suc n) zero (x ∷ xs) z h k l = absurd (not-suc-le-zero k)
+  spare-at (suc n) (suc i) (x ∷ xs) z h k l = spare-at n i xs z h (le-of-suc-le-suc k) (le-of-suc-le-suc l)
+
+  pub spare-of : (n : ℕ) (xs : List A) (z : A) → ((i : ℕ) → n ≤ i → i < length xs → getD xs i z ≡ d) → Spare n xs
+  spare-of zero xs z h = at-all (λ x. x ≡ d) xs z (λ i l. h i zero-le l)
+  spare-of (suc n) [] z h = stop
+  spare-of (suc n) (x ∷ xs) z h = spare-of n xs z (λ i k l. h (suc i) (suc-le-suc k) (suc-le-suc l))
+
   pub spare-map : {B : Type 0} (f : A → B) (n : ℕ) (xs : List A) → Spare n xs → All (λ y. y ≡ f d) (drop n (map f xs))
   spare-map f zero [] h = stop
   spare-map f zero (x ∷ xs) (and e h) = and (ap f e) (spare-map f zero xs h)
@@ -49,13 +60,6 @@ module _ {A : Type 0} (d : A) where
   spare-mapped f z zero (x ∷ xs) (and e h) = ap₂ (λ y l. y ∷ l) (e ∙ sym (ap f e ∙ z)) (spare-mapped f z zero xs h)
   spare-mapped f z (suc n) [] h = refl
   spare-mapped f z (suc n) (x ∷ xs) h = ap (λ l. f x ∷ l) (spare-mapped f z n xs h)
-
-  -- a search
-  pub spare-any : (p : A → Bool) → p d ≡ false → (n : ℕ) (xs : List A) → Spare n xs → anyOf p (drop n xs) ≡ false
-  spare-any p z zero [] h = refl
-  spare-any p z zero (x ∷ xs) (and e h) = ap₂ _||_ (ap p e ∙ z) (spare-any p z zero xs h)
-  spare-any p z (suc n) [] h = refl
-  spare-any p z (suc n) (x ∷ xs) h = spare-any p z n xs h
 
   -- a loop that fills an array of m places with the elements of xs: the first i are there, and d behind them
   abbrev pub begun : (m i : ℕ) → List A → List A

@@ -2,13 +2,13 @@
 use mathlib.Core.Path.{_≡_, refl, ap, ap₂, sym, _∙_}
 use mathlib.Core.Bool.{Bool, true, false, cond}
 use mathlib.Core.List.{List, [], _∷_, _++_, map}
-use Prim.Native.Nat.{ℕ, suc, _+_, _*_, _≤_, zero-le}
-use native.Mathlib.Nat.{mul-zero, mul-add, suc-mul}
+use Prim.Native.Nat.{ℕ, zero, suc, _+_, _*_, _≤_, _<_, zero-le}
+use native.Mathlib.Nat.{mul-zero, mul-add, suc-mul, not-suc-le-zero, le-of-suc-le-suc}
 use native.Mathlib.Omega.{arith}
-use lib.ListN.{length}
+use lib.ListN.{length, getD}
 use Rattle.lists.specs.Lists.{cons-if, one-if, keep, sumOf, insert, sort, concatMap}
-use Rattle.lists.specs.Tests.{cond-le}
-use Rattle.lists.specs.All.{All, stop, and, all-map, all-of}
+use Rattle.lists.specs.Tests.{cond-le, one-if-true}
+use Rattle.lists.specs.All.{All, stop, and, all-map, all-of, all-at}
 
 module _ {A : Type 0} where
   pub sum-ext : (f g : A → ℕ) {xs : List A} → All (λ x. f x ≡ g x) xs → sumOf f xs ≡ sumOf g xs
@@ -95,6 +95,26 @@ module _ {A : Type 0} where
       no : (b : Bool) → one-if b + sumOf (λ x. one-if (p x)) xs ≡ 0 → b ≡ false
       no true h = absurd (omega arith)
       no false h = refl
+
+  -- a count of 1: no two places pass
+  count-more : (p : A → Bool) (x : A) (xs : List A) (d : A) (j : ℕ) → j < length xs → p x ≡ true → p (getD xs j d) ≡ true
+      → sumOf (λ y. one-if (p y)) (x ∷ xs) ≤ 1 → ⊥
+  count-more p x xs d j l q r c =
+      omega (
+        arith,
+        one-if-true q,
+        one-if-true r,
+        all-at (λ y. one-if (p y) ≤ sumOf (λ z. one-if (p z)) xs) xs d (each-in-sum (λ y. one-if (p y)) xs) j l,
+      )
+
+  pub count-once : (p : A → Bool) (xs : List A) (d : A) (i j : ℕ) → i < length xs → j < length xs → p (getD xs i d) ≡ true
+      → p (getD xs j d) ≡ true → sumOf (λ x. one-if (p x)) xs ≤ 1 → i ≡ j
+  count-once p [] d i j h k q r c = absurd (not-suc-le-zero h)
+  count-once p (x ∷ xs) d zero zero h k q r c = refl
+  count-once p (x ∷ xs) d zero (suc j) h k q r c = absurd (count-more p x xs d j (le-of-suc-le-suc k) q r c)
+  count-once p (x ∷ xs) d (suc i) zero h k q r c = absurd (count-more p x xs d i (le-of-suc-le-suc h) r q c)
+  count-once p (x ∷ xs) d (suc i) (suc j) h k q r c =
+      ap suc (count-once p xs d i j (le-of-suc-le-suc h) (le-of-suc-le-suc k) q r (omega arith))
 
 module _ {A B : Type 0} where
   pub sum-map : (f : B → ℕ) (g : A → B) (xs : List A) → sumOf f (map g xs) ≡ sumOf (λ x. f (g x)) xs

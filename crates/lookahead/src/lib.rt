@@ -1,34 +1,112 @@
 // Looking ahead: steps A, B and F in turn until every life is used up. Document 01, "Looking ahead".
 ghost use mathlib.Core.Path.{_≡_};
+ghost use Prim.Native.Nat.{_+_, _<_, max};
 ghost use Rattle.rules.specs.Ahead.{fitsAhead};
-ghost use Rattle.rules.specs.Calls.{heldOf};
+ghost use Rattle.rules.specs.Calls.{places, heldOf};
 ghost use Rattle.laws.specs.Places.{Tidy};
+ghost use Rattle.places.specs.Put.{putIn};
+ghost use Rattle.queue.specs.Queues.{Used};
+ghost use Rattle.outlook.specs.Looking.{Begun, Says};
+use model::Entry;
+use model::Slots;
 use model::Table;
 
-// Where an even share is enough for what is left, no more intervals are looked at: so too where nothing is left. A leap leaves the load
-// and so the capacity as they are, but not the ranks and what is owed: after it the queue is made again.
-// Stops at the first miss.
-pub fn fits_ahead(t: Table) -> bool
-    requires { ⌜ Tidy t ⌝ }
-    ensures { λ r. ⌜ r ≡ fitsAhead (t .interval .0) (heldOf t) ⌝ }
+// From one end of a period or a life to the next, until nothing is left or a deadline is missed. The intervals up to an end are served as
+// one: what is due there first, then what is due later, by rank. Where an even share is enough for what is left, no more is looked at. That
+// is tried at a time at least twice the last, since it costs about as much as a turn.
+fn goes_well(
+    interval: Slots,
+    used: usize,
+    ranks: &mut [u64; 32],
+    owed: &mut [u32; 32],
+    ends: &mut [u32; 32],
+    lives: &[u32; 32],
+    amounts: &mut [u32; 32],
+    periods: &[u32; 32],
+) -> bool
+    requires { ⌜ Begun (interval .0) used (now ranks) (now owed) (now ends) (now lives) (now amounts) (now periods) ⌝ }
+    ensures { λ r. ⌜ Says r (interval .0) used (now (ranks .entry)) (now (owed .entry)) (now (ends .entry)) (now (lives .entry))
+        (now (amounts .entry)) (now (periods .entry)) ⌝ }
 {
-    let mut now = t;
-    while !survey::fits_evenly(now) {
-        let q = queue::queue_of(now);
-        let interval = now.interval;
-        if (interval.0 as u64) < q.load {
+    let slots = interval.0 as u64;
+    let mut load = events::load_of(amounts, periods, used);
+    if slots < load {
+        return false;
+    }
+    let mut time: u32 = 0;
+    let mut try_at: u64 = 1;
+    let mut at = events::next_end(ends, used);
+    while at != backlog::NEVER {
+        let capacity = ((at - time) as u64) * (slots - load);
+        let due = serving::pay_due(owed, ends, used, at);
+        if capacity < due {
             return false;
         }
-        let capacity = slots::left_of(interval, q.load);
-        let there = leap::leapt(now, q, capacity);
-        let r = queue::queue_of(there);
-        let used = r.used;
-        let pieces = share::pieces(r, capacity);
-        if trial::misses(there, used, pieces) {
-            return false;
+        serving::serve(ranks, owed, used, capacity - due);
+        events::pass_ends(ranks, owed, ends, lives, amounts, periods, used, at);
+        load = events::load_of(amounts, periods, used);
+        time = at;
+        if try_at <= time as u64 {
+            if even::needs_of(owed, ends, amounts, periods, used, time) <= slots {
+                return true;
+            }
+            try_at = 2 * (time as u64);
         }
-        let next = trial::advance_without_extras(there, used, pieces);
-        now = next;
+        at = events::next_end(ends, used);
     }
     true
+}
+
+// One more than the last place in use, with this one.
+fn used_with(used: usize, place: usize) -> usize
+    requires { ⌜ place < places ⌝ }
+    ensures { λ r. ⌜ r ≡ max used (place + 1) ⌝ }
+{
+    if used <= place {
+        return place + 1;
+    }
+    used
+}
+
+// Looks ahead from the table with the entry at its place. The table is only read: what changes from end to end are its figures.
+pub fn fits_ahead(t: Table, used: usize, place: usize, e: Entry) -> bool
+    requires { ⌜ Tidy t × Used used t ⌝ }
+    requires { ⌜ (place < places) × Tidy (putIn t place e) ⌝ }
+    ensures { λ r. ⌜ r ≡ fitsAhead (t .interval .0) (heldOf (putIn t place e)) ⌝ }
+{
+    let interval = t.interval;
+    let mut ranks = [0u64; 32];
+    let mut owed = [0u32; 32];
+    let mut ends = [backlog::NEVER; 32];
+    let mut lives = [0u32; 32];
+    let mut amounts = [0u32; 32];
+    let mut periods = [0u32; 32];
+    backlog::read_table(
+        t,
+        used,
+        &mut ranks,
+        &mut owed,
+        &mut ends,
+        &mut lives,
+        &mut amounts,
+        &mut periods,
+    );
+    let f = backlog::figures_of(e);
+    ranks[place] = f.rank;
+    owed[place] = f.owed;
+    ends[place] = f.end;
+    lives[place] = f.life;
+    amounts[place] = f.amount;
+    periods[place] = f.period;
+    let last = used_with(used, place);
+    goes_well(
+        interval,
+        last,
+        &mut ranks,
+        &mut owed,
+        &mut ends,
+        &lives,
+        &mut amounts,
+        &periods,
+    )
 }

@@ -69,7 +69,7 @@ pub record Queued (t : Table) (q : Queue) : Type 0 where
   pub limits : q .limits ≡ map limitOf (t .entries)
   pub jobs : q .jobs ≡ map jobsIn (t .entries)
 
-pub queued-spare : {t : Table} {q : Queue} → Queued t q → (q .used ≤ 32) × Spare 0 (q .used) (q .owed)
+queued-spare : {t : Table} {q : Queue} → Queued t q → (q .used ≤ 32) × Spare 0 (q .used) (q .owed)
 queued-spare {t} {q} w = (w .used .0, rw (w .owed) (spare-map freeEntry owedTo (q .used) (t .entries) (w .used .1)))
 
 -- no entry has more than sixteen jobs

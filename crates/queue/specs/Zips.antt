@@ -1,8 +1,8 @@
 -- Two lists taken together, place by place, as far as both go: what stands at a place, where the second list is spare, and where both are
 -- maps of one list. Assumes nothing.
-use mathlib.Core.Path.{_≡_, refl, ap, _∙_}
+use mathlib.Core.Path.{_≡_, refl, ap, ap₂, _∙_}
 use mathlib.Core.List.{List, [], _∷_, map}
-use Prim.Native.Nat.{ℕ, zero, suc, _<_, min}
+use Prim.Native.Nat.{ℕ, zero, suc, _<_, min, zero-le, suc-le-suc}
 use native.Mathlib.Nat.{not-suc-le-zero, le-of-suc-le-suc}
 use native.Mathlib.Omega.{arith}
 use lib.ListN.{length, getD}
@@ -42,3 +42,15 @@ module _ {A B C : Type 0} (f : A → B → C) where
   unfolding zip
   zip-map g h [] = refl
   zip-map g h (e ∷ es) = ap (λ l. f (g e) (h e) ∷ l) (zip-map g h es)
+
+  -- place by place the same as a map of another list
+  pub zip-as : {E : Type 0} (g : E → C) (xs : List A) (ys : List B) (es : List E) (a : A) (b : B) (d : E) → length xs ≡ length es
+      → length ys ≡ length es → ((i : ℕ) → i < length es → f (getD xs i a) (getD ys i b) ≡ g (getD es i d)) → zip xs ys ≡ map g es
+  unfolding zip
+  zip-as g [] ys [] a b d p q h = refl
+  zip-as g [] ys (e ∷ es) a b d p q h = absurd (omega arith)
+  zip-as g (x ∷ xs) ys [] a b d p q h = absurd (omega arith)
+  zip-as g (x ∷ xs) [] (e ∷ es) a b d p q h = absurd (omega arith)
+  zip-as g (x ∷ xs) (y ∷ ys) (e ∷ es) a b d p q h =
+      ap₂ (λ v l. v ∷ l) (h zero (suc-le-suc zero-le))
+      (zip-as g xs ys es a b d (omega arith) (omega arith) (λ i l. h (suc i) (suc-le-suc l)))

@@ -1,7 +1,7 @@
-// One entry after an interval: step F of document 01, "One beacon"; and whether the interval misses its deadline.
+// One entry after an interval: step F of document 01, "One beacon".
 ghost use mathlib.Core.Path.{_≡_};
 ghost use Rattle.rules.specs.Ahead.{passed, renewed, settled};
-ghost use Rattle.settle.specs.Next.{WithinAmounts, afterGrant, missesWith};
+ghost use Rattle.settle.specs.Next.{WithinAmounts, afterGrant};
 use model::Entry;
 use share::Granted;
 
@@ -66,18 +66,4 @@ pub fn after_grant(e: Entry, g: Granted) -> Entry
     ensures { λ r. ⌜ r ≡ afterGrant g e ⌝ }
 {
     settled(passed(e, g))
-}
-
-// Whether an entry's deadline is the end of this interval, and its piece is less than what it is owed.
-pub fn misses_deadline(e: Entry, piece: u32) -> bool
-    ensures { λ r. ⌜ r ≡ missesWith piece e ⌝ }
-{
-    let left = e.left.0;
-    if left != 1 {
-        return false;
-    }
-    if amounts::is_piece(e) {
-        return piece < e.owed.0;
-    }
-    false
 }

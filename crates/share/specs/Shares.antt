@@ -6,7 +6,6 @@ use mathlib.Core.Bool.{cond}
 use mathlib.Core.List.{List, map, map-map}
 use Prim.Native.Nat.{ℕ, _*_, _-_, _<_}
 use native.Mathlib.Omega.{arith}
-use lib.Dec.{ltb}
 use lib.ListN.{length, getD}
 use Rattle.lists.specs.All.{All, all-map, all-zip, map-ext}
 use Rattle.lists.specs.Lists.{sumOf}
@@ -15,7 +14,7 @@ use Rattle.lists.specs.Loops.{map-at}
 use Rattle.model.specs.Entries.{freeEntry}
 use Rattle.model.specs.declared.Entry.{Entry}
 use Rattle.model.specs.declared.Table.{Table}
-use Rattle.rules.specs.Share.{overfull, capacity, stepB, remains, headroom, jobCount, weight, extra}
+use Rattle.rules.specs.Share.{capacity, stepB, remains, headroom, jobCount, weight, extra}
 use Rattle.rules.specs.Calls.{heldOf}
 use Rattle.rules.specs.WellFormed.{Held}
 use Rattle.laws.specs.Held.{held-is}
@@ -52,7 +51,7 @@ grantOf s ps e =
 
 -- ---- place by place
 -- the slots of step B
-abbrev pub piecesIn : Table → List ℕ
+abbrev piecesIn : Table → List ℕ
 piecesIn t = map (takes (capacity (t .interval .0) (heldOf t)) (t .entries)) (t .entries)
 
 -- d of each
@@ -84,13 +83,10 @@ module _ (t : Table) {s : Shares} (e : s ≡ sharesOf t) (i : ℕ) (h : i < leng
 
 -- what a program finds of a table's queue
 module _ (t : Table) (w : Tidy t) {q : Queue} (k : Queued t q) where
-  pub overfull-found : ltb (t .interval .0) (q .load) ≡ overfull (t .interval .0) (heldOf t)
-  overfull-found = ap (ltb (t .interval .0)) (k .load)
-
-  pub capacity-found : {c : ℕ} → c ≡ t .interval .0 - q .load → c ≡ capacity (t .interval .0) (heldOf t)
+  capacity-found : {c : ℕ} → c ≡ t .interval .0 - q .load → c ≡ capacity (t .interval .0) (heldOf t)
   capacity-found e = e ∙ ap (λ n. t .interval .0 - n) (k .load)
 
-  pub pieces-found : {c : ℕ} {ps : List ℕ} → c ≡ capacity (t .interval .0) (heldOf t) → ps ≡ piecesOf c (q .ranks) (q .owed)
+  pieces-found : {c : ℕ} {ps : List ℕ} → c ≡ capacity (t .interval .0) (heldOf t) → ps ≡ piecesOf c (q .ranks) (q .owed)
       → ps ≡ piecesIn t
   pieces-found {c} e p = takes-found t w k c p ∙ ap (λ n. map (takes n (t .entries)) (t .entries)) e
 

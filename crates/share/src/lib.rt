@@ -51,7 +51,7 @@ fn piece_at(ranks: &[u64], owed: &[u32], used: usize, capacity: Slots, i: usize)
 }
 
 // For a tidy table's queue these are the slots of step B, place by place: Queues.pieces-right.
-pub fn pieces(q: Queue, capacity: Slots) -> [u32; 32]
+fn pieces(q: Queue, capacity: Slots) -> [u32; 32]
     requires { ⌜ (q .used ≤ 32) × Spare 0 (q .used) (q .owed) ⌝ }
     ensures { λ r. ⌜ r ≡ piecesOf (capacity .0) (q .ranks) (q .owed) ⌝ }
 {

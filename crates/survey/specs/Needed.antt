@@ -1,31 +1,12 @@
--- What an even share of every interval takes of one interval, of a table's places together. Assumes nothing.
-use mathlib.Core.Path.{_≡_, refl, sym, ap, _∙_}
+-- Tests on what an even share takes of an interval, beside one entry more. Assumes nothing.
+use mathlib.Core.Path.{_≡_, sym}
 use mathlib.Core.Bool.{false}
-use mathlib.Core.List.{List, [], _∷_}
 use Prim.Native.Nat.{ℕ, _+_, _-_, _≤_, _<_}
 use native.Mathlib.Omega.{arith}
 use lib.Dec.{leb}
 use borrow.Author.Tests.{leb-true, le-leb, lt-leb}
-use Rattle.lists.specs.Lists.{sumOf}
 use Rattle.lists.specs.Tests.{same-test}
-use Rattle.model.specs.declared.Entry.{Entry}
-use Rattle.model.specs.declared.Table.{Table}
-use Rattle.rules.specs.Share.{load}
-use Rattle.rules.specs.Calls.{heldOf}
-use Rattle.laws.specs.Places.{Tidy, load-places}
-use Rattle.ahead.specs.Even.{evenly}
-unfoldable pub use Rattle.even.specs.Need.{evenNeed}
 
--- what kind 1 takes, and what the pieces do
-needs-apart : (es : List Entry) → sumOf evenNeed es ≡ load es + sumOf evenly es
-unfolding evenNeed load
-needs-apart [] = refl
-needs-apart (e ∷ es) = omega (arith, needs-apart es)
-
-pub needs-places : (t : Table) → Tidy t → sumOf evenNeed (t .entries) ≡ load (heldOf t) + sumOf evenly (t .entries)
-needs-places t w = needs-apart (t .entries) ∙ ap (λ n. n + sumOf evenly (t .entries)) (load-places t w)
-
--- ---- tests
 -- what is left of b slots beside n is enough for s more
 pub over-test : (n s b : ℕ) → b < n → false ≡ leb (n + s) b
 over-test n s b h = sym (lt-leb (n + s) b (omega arith))

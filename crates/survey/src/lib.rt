@@ -1,18 +1,18 @@
-// What a call finds in a table's places in one pass: the place of a stream, the first free place, and what an even share of each interval
-// takes. One pass finds all that an offer asks before looking ahead, since each function that reads the places has a copy of the table.
+// What a call finds in a table's places in one pass: the place of a stream, the first free place, what an even share of each interval
+// takes, and the last place in use. One pass finds all that an offer asks before looking ahead, since each function that reads the places
+// has a copy of the table.
 ghost use mathlib.Core.Bool.{true, cond, _||_};
 ghost use mathlib.Core.Path.{_≡_};
 ghost use Prim.Native.Nat.{_+_, _*_, _≤_, _<_};
 ghost use lib.Dec.{eqb, leb};
 ghost use Rattle.lists.specs.Lists.{sumOf};
 ghost use Rattle.lists.specs.First.{firstOf};
-ghost use Rattle.rules.specs.Share.{load};
-ghost use Rattle.rules.specs.Calls.{heldOf, holds};
+ghost use Rattle.rules.specs.Calls.{holds};
 ghost use Rattle.laws.specs.Closed.{mostSlots};
 ghost use Rattle.laws.specs.Places.{Tidy};
-ghost use Rattle.ahead.specs.Even.{evenly};
+ghost use Rattle.queue.specs.Queues.{Used};
 ghost use Rattle.amounts.specs.Amounts.{loadOf};
-ghost use Rattle.survey.specs.Needed.{evenNeed};
+ghost use Rattle.even.specs.Need.{evenNeed};
 ghost use Rattle.survey.specs.Search.{isHeldAs, isFree};
 ghost use Rattle.survey.specs.Passes.{withEntry, mostNeed};
 use model::Entry;
@@ -44,11 +44,13 @@ pub fn place_of(t: Table, stream: u32) -> usize
 }
 
 // ---- what an offer asks of the places
-// Whether the stream is held; the first free place, 32 where none is free; the slots of an interval that an even share takes.
+// Whether the stream is held; the first free place, 32 where none is free; the slots of an interval that an even share takes; one more than
+// the last held place, 0 where none is held.
 pub struct Survey {
     pub taken: bool,
     pub free: usize,
     pub needed: u64,
+    pub used: usize,
 }
 
 fn or_else(a: bool, b: bool) -> bool
@@ -88,17 +90,20 @@ fn look_at(s: Survey, e: Entry, i: usize, stream: u32) -> Survey
         taken,
         free,
         needed: s.needed + need,
+        used: i + 1,
     }
 }
 
 pub fn survey_for(t: Table, stream: u32) -> Survey
     requires { ⌜ Tidy t ⌝ }
-    ensures { λ r. ⌜ (r .taken ≡ holds t stream) × (r .free ≡ firstOf isFree (t .entries)) × (r .needed ≡ sumOf evenNeed (t .entries)) ⌝ }
+    ensures { λ r. ⌜ (r .taken ≡ holds t stream) × (r .free ≡ firstOf isFree (t .entries)) × (r .needed ≡ sumOf evenNeed (t .entries))
+        × Used (r .used) t ⌝ }
 {
     let mut s = Survey {
         taken: false,
         free: 0,
         needed: 0,
+        used: 0,
     };
     for i in 0..32 {
         let e = t.entries[i];
@@ -117,13 +122,4 @@ pub fn fits_with(needed: u64, e: Entry, interval: Slots) -> bool
         return false;
     }
     even::need_of(e) <= slots - needed
-}
-
-pub fn fits_evenly(t: Table) -> bool
-    requires { ⌜ Tidy t ⌝ }
-    ensures { λ r. ⌜ r ≡ leb (load (heldOf t) + sumOf evenly (t .entries)) (t .interval .0) ⌝ }
-{
-    let interval = t.interval;
-    let s = survey_for(t, 0);
-    s.needed <= interval.0 as u64
 }

@@ -9,7 +9,7 @@ use Rattle.model.specs.Answers.{offerNumber}
 use Rattle.rules.specs.Ahead.{fitsAhead}
 use Rattle.rules.specs.Calls.{places, heldOf, holds}
 use Rattle.laws.specs.Offers.{offerChecksBut, isFull}
-use Rattle.laws.specs.Places.{Tidy}
+use Rattle.laws.specs.Places.{Tidy, formed-tidy}
 use Rattle.places.specs.Put.{putIn}
 use Rattle.admission.specs.Offer.{withRequest, surveyed-checks, surveyed-place, outside-answer, refused-answer, free-inside}
 use Rattle.admission.specs.Offer.{request-tidy, fits-answer, fits-evenly, no-time}
@@ -98,18 +98,15 @@ inside c =
     let s = v .before .before .before in
     free-inside (s .args .t) (s .pre) (s .args .q) (answered f) (passed e) (v .survey-for .ensures .1)
 
-mul-e : tie.Need-mul-e
-mul-e c = (let h = inside c in search needs)
-
-element-set-from-e : tie.Need-element-set-from-e
-element-set-from-e c = inside c
-
 fits-ahead-requires : tie.Need-fits-ahead-requires
 fits-ahead-requires c κs =
     let o = c .before .before in
     let f = o .before .before .before in
-    let s = f .before .before .before .before .before in
-    subst Tidy (sym (with-request o)) (request-tidy (s .args .t) (s .pre) (s .args .q) (answered f) (passed (o .before)))
+    let v = f .before .before in
+    let s = v .before .before .before in (
+      (formed-tidy (s .pre), v .survey-for .ensures .3),
+      (inside c, subst Tidy (sym (with-request o)) (request-tidy (s .args .t) (s .pre) (s .args .q) (answered f) (passed (o .before)))),
+    )
 
 looked : (c : tie.After-fits-ahead)
     → (let a = c .before .before .before .before .before .before .before .before .before .before .before .args in
@@ -152,8 +149,6 @@ decide-spec =
     entry-of-requires
     fits-with-requires
     returns-3
-    mul-e
-    element-set-from-e
     fits-ahead-requires
     refused-requires-3
     returns-4

@@ -29,6 +29,9 @@ need-of-requires c κs = search needs
 add-t10 : tie.Need-add-t10
 add-t10 c = search needs
 
+add-t11 : tie.Need-add-t11
+add-t11 c = search needs
+
 returns-2 : tie.Need-returns-2
 returns-2 c =
     let n = c .before in
@@ -56,4 +59,5 @@ look-at-spec =
     free-after-requires
     need-of-requires
     add-t10
+    add-t11
     returns-2)

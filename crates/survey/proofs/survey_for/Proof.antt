@@ -6,8 +6,9 @@ use borrow.Author.Needs.{needs}
 use Rattle.lists.specs.All.{all-at}
 use Rattle.laws.specs.Closed.{mostSlots, load-most}
 use Rattle.places.proofs.Known.{inside, past}
+use Rattle.queue.specs.Queues.{free-place}
 use Rattle.amounts.specs.Amounts.{loadOf}
-use Rattle.survey.specs.Needed.{evenNeed}
+use Rattle.even.specs.Need.{evenNeed}
 use Rattle.survey.specs.Search.{isFree}
 use Rattle.survey.specs.Passes.{Passed, passed-none, passed-more, passed-all, free-needs}
 use Rattle.survey.proofs.survey_for.Statement.{statement}
@@ -53,12 +54,13 @@ loop-again c =
     let s = c .before .before .before .before in
     let h = inside (s .args .t1) (s .good .0) (c .before .before .loop-test .taken) in
     let e = c .look-at .ensures in
-    (omega arith, passed-more _ h (c .before .before .before .loop .inv .1) (e .0) (e .1))
+    (omega arith, passed-more _ h (free-place (s .args .t1) (s .pre) _ _ h) (c .before .before .before .loop .inv .1) (e .0) (e .1))
 
 returns : tie.Need-returns Inv-loop μ-loop
 returns c =
     let s = c .before .before in
-    passed-all (s .args .t1) (past (s .args .t1) (s .good .0) (c .loop-test .left)) (c .before .loop .inv .1)
+    let v = c .before .loop .inv in
+    passed-all (s .args .t1) (v .0) (past (s .args .t1) (s .good .0) (c .loop-test .left)) (v .1)
 
 pub survey-for-spec : {M : Type 1} → statement M
 survey-for-spec =
