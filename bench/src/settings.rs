@@ -154,13 +154,13 @@ fn filled(group: &'static str, size: u32, life: u32, others: impl Fn(u32) -> Off
     Setting { held, offered, peers: Peers::Second, ..mix(group, size, 1, 1, OFFERS) }
 }
 
-/// Lives grow on the worst table: 30 whole streams of period 1.
+/// Lives grow on the dearest of the candidates below. Its periods, 1 to 6, divide every life.
 fn full() -> Vec<Setting> {
     let setting = |life| Setting {
-        peers: if life < 65_535 { Peers::Second } else { Peers::Nobody },
-        ..filled("full", life, life, |i| whole(i, 1, 20, life))
+        peers: if life < 65_520 { Peers::Second } else { Peers::Nobody },
+        ..filled("full", life, life, |i| whole(i, i % 6 + 1, 20 * (i % 6 + 1), life))
     };
-    [3, 15, 51, 255, 771, 3_855, 13_107, 65_535].map(setting).into()
+    [60, 240, 780, 3_840, 13_080, 65_520].map(setting).into()
 }
 
 /// Candidates for the worst input of looking ahead, all of life 240.
