@@ -1,7 +1,7 @@
 # The commands of the README.
 SHELL := /bin/bash
 .SHELLFLAGS := -o pipefail -c
-.PHONY: show test reference compared archive bindings bench fuzz lists cost picture
+.PHONY: show test reference compared archive bindings failures bench fuzz lists cost picture
 
 # Prove what the program rests on (quickly, where nothing has changed), and run it on a school's day.
 show:
@@ -9,11 +9,12 @@ show:
 	@target/bin/shelf < reference/data/school.in
 
 # The gate: layout, the second implementation's own tests and its stored rows, the stored pictures; then every proof from nothing, every
-# must-fail edit and every program; then the calls from C and from Rust, over what was just proved. The last line is that of rt ci.
+# must-fail edit and every program; then, over what was just proved, the calls from C and from Rust, and the program where reads and writes
+# fail. The last line is that of rt ci.
 # Crates and edits are checked in batches, each of which waits for its slowest: batches of four keep two cores at work.
 test: reference compared
 	@rt fmt --check
-	@log=$$(mktemp) && RT_JOBS=4 rt ci | tee $$log && $(MAKE) bindings && tail -n 1 $$log && rm $$log
+	@log=$$(mktemp) && RT_JOBS=4 rt ci | tee $$log && $(MAKE) bindings failures && tail -n 1 $$log && rm $$log
 
 reference:
 	@cargo test --offline --release --quiet --manifest-path reference/Cargo.toml
@@ -58,6 +59,10 @@ bindings: archive
 	    target/staticlib/libhost.a || exit 1; done
 	@target/case1 | diff bindings/c/case1.out -
 	@cargo test --offline --release --quiet --manifest-path bindings/rust/Cargo.toml
+
+# The program where reads and writes fail, wait or come in parts. It has to be built: rt check shelf, or rt ci.
+failures:
+	@cargo test --offline --release --quiet --manifest-path compare/Cargo.toml --test failures -- --ignored
 
 # The calls measured beside the second implementation and the published procedure: the tables of docs/PERFORMANCE.md, and its plots anew.
 # Takes about two minutes (valgrind's callgrind).
