@@ -1,5 +1,5 @@
-// The figures of a table that looking ahead goes by, place by place. Times count intervals from where looking ahead begins, so what has
-// no end yet keeps its figures from one end to the next.
+// The figures of a table that looking ahead goes by, place by place. Times count intervals from where looking ahead begins, so that a place
+// keeps its figures while it is neither served nor at its end.
 ghost use mathlib.Core.Path.{_≡_};
 ghost use Prim.Native.Nat.{_≤_};
 ghost use lib.ListN.{replicate};
