@@ -43,7 +43,7 @@ fn goes_well(
             return false;
         }
         serving::serve(ranks, owed, used, capacity - due);
-        events::pass_ends(ranks, owed, ends, lives, amounts, periods, used, at);
+        passing::pass_ends(ranks, owed, ends, lives, amounts, periods, used, at);
         load = events::load_of(amounts, periods, used);
         time = at;
         if try_at <= time as u64 {

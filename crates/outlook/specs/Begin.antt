@@ -23,7 +23,7 @@ use Rattle.laws.specs.Ranks.{rank}
 use Rattle.amounts.specs.Amounts.{loadOf, owedTo}
 use Rattle.backlog.specs.Figures.{endOf, lifeOf, amountOf, periodOf, figuresOf, Columns}
 use Rattle.backlog.specs.declared.Figures.{Figures}
-use Rattle.events.specs.Ends.{figuresAt}
+use Rattle.passing.specs.Passed.{figuresAt}
 use Rattle.outlook.specs.Shown.{Shown, shown-first}
 use Rattle.outlook.specs.Looking.{Begins}
 

@@ -31,7 +31,8 @@ use Rattle.queue.specs.Zips.{zip}
 use Rattle.serving.specs.Serving.{leftOf, dueOf, unpaid, Owing, Ranked}
 use Rattle.serving.specs.Laws.{unpaid-less, length-unpaid, length-left, ranked-less}
 use Rattle.backlog.specs.Figures.{never}
-use Rattle.events.specs.Ends.{firstEnd, loadIn, Roomy, PassedEnds}
+use Rattle.events.specs.Ends.{firstEnd, loadIn}
+use Rattle.passing.specs.Passed.{Roomy, PassedEnds}
 use Rattle.outlook.specs.Shows.{Shows, ends-spare, owed-spare, first-after, first-soon}
 use Rattle.outlook.specs.Shows.{first-until, none-left, some-left, load-shown, due-shown}
 use Rattle.outlook.specs.Turns.{ranked, roomy, shows-next}

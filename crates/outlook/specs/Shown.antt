@@ -20,7 +20,7 @@ use Rattle.ahead.specs.Leap.{eventIn, later-on}
 use Rattle.amounts.specs.Amounts.{owedTo}
 use Rattle.backlog.specs.Figures.{never, amountOf, periodOf, figuresOf}
 use Rattle.backlog.specs.declared.Figures.{Figures}
-use Rattle.events.specs.Ends.{rankInterval, passedEnd}
+use Rattle.passing.specs.Passed.{rankInterval, passedEnd}
 
 pub record Shown (now : ℕ) (e : Entry) (f : Figures) : Type 0 where
   pub owed : f .owed ≡ owedTo e

@@ -31,8 +31,9 @@ use Rattle.queue.specs.Zips.{zip, zip-as}
 use Rattle.queue.specs.Queues.{Used}
 use Rattle.serving.specs.Serving.{dueOf}
 use Rattle.backlog.specs.Figures.{never, amountOf, periodOf}
-use Rattle.events.specs.Ends.{firstEnd, figuresAt, loadIn}
+use Rattle.events.specs.Ends.{firstEnd, loadIn}
 use Rattle.events.specs.EndLaws.{first-all, first-least, first-above, first-within}
+use Rattle.passing.specs.Passed.{figuresAt}
 use Rattle.outlook.specs.Shown.{Shown}
 
 pub record Shows (now used : ℕ) (t : Table) (R O E L A P : List ℕ) : Type 0 where

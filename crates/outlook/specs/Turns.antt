@@ -37,7 +37,7 @@ use Rattle.queue.specs.Zips.{zip-at, length-zip}
 use Rattle.queue.specs.Queues.{owedBelow, pieceOf}
 use Rattle.serving.specs.Serving.{leftOf, unpaid, Apart, Ranked}
 use Rattle.backlog.specs.Figures.{never}
-use Rattle.events.specs.Ends.{figuresAt, rankInterval, passedEnd, PassedEnds, Roomy}
+use Rattle.passing.specs.Passed.{figuresAt, rankInterval, passedEnd, PassedEnds, Roomy}
 use Rattle.outlook.specs.Shown.{Shown, stays, with-owed, shown-next}
 use Rattle.outlook.specs.Shows.{Shows, place, end-held, owed-spare, sum-as, now-or-later}
 

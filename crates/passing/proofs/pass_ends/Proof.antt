@@ -1,14 +1,14 @@
--- `events::pass_ends` meets its contract. The invariant: the first i places have passed the end. The measure is the number of places left.
+-- `passing::pass_ends` meets its contract. The invariant: the first i places have passed the end. The measure is the number of places left.
 -- Assumes nothing.
 use mathlib.Core.Path.{ap}
 use mathlib.Core.Logic.{inl, inr}
 use Prim.Native.Nat.{_-_, _≤_, _<_}
 use Rattle.backlog.specs.declared.Figures.{Figures}
-use Rattle.events.specs.EndLaws.{Passing, passing-none, passing-here, passing-same, passing-more, passing-all}
+use Rattle.passing.specs.PassingLaws.{Passing, passing-none, passing-here, passing-same, passing-more, passing-all}
 use native.Mathlib.Omega.{arith}
 use borrow.Author.Needs.{needs}
-use Rattle.events.proofs.pass_ends.Statement.{statement}
-use Rattle.events.proofs.pass_ends.Tie as tie
+use Rattle.passing.proofs.pass_ends.Statement.{statement}
+use Rattle.passing.proofs.pass_ends.Tie as tie
 
 abbrev Inv-loop : tie.InvT-loop
 Inv-loop ranks₀ owed₀ ends₀ lives amounts₀ periods used at i₀ ranks owed ends amounts i =

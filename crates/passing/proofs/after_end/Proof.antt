@@ -1,7 +1,7 @@
 use borrow.Author.Needs.{needs}
 use borrow.Author.Tests.{eq-eqb, ne-eqb}
-use Rattle.events.proofs.after_end.Statement.{statement}
-use Rattle.events.proofs.after_end.Tie as tie
+use Rattle.passing.proofs.after_end.Statement.{statement}
+use Rattle.passing.proofs.after_end.Tie as tie
 
 returns : tie.Need-returns
 returns c = rw (eq-eqb _ _ (c .if1 .taken))
