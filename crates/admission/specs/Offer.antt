@@ -31,7 +31,7 @@ use Rattle.laws.specs.Places.{Tidy, formed-tidy}
 use Rattle.ahead.specs.Formed.{passed-together, placed-tidy, placed-ahead}
 use Rattle.ahead.specs.Even.{evenly, even-ahead}
 use Rattle.even.specs.Need.{evenNeed, needs-places}
-use Rattle.survey.specs.Search.{isFree, place-full, place-taken}
+use Rattle.survey.specs.Free.{isFree, place-full, place-taken}
 use Rattle.places.specs.Put.{withEntries, putIn, put-past}
 
 -- one list of checks, then another

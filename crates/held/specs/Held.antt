@@ -17,7 +17,7 @@ use Rattle.model.specs.declared.Table.{Table}
 use Rattle.rules.specs.Calls.{places, holds, heldAnswer, withdrawn}
 use Rattle.rules.specs.Reading.{enquired}
 use Rattle.rules.specs.WellFormed.{WellFormed}
-use Rattle.survey.specs.Search.{isHeldAs, place-held, place-entry, place-none, place-freed}
+use Rattle.finding.specs.Search.{isHeldAs, place-held, place-entry, place-none, place-freed}
 use Rattle.places.specs.Put.{withEntries, putIn, put-past}
 
 -- p is the stream's place

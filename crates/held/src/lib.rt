@@ -38,7 +38,7 @@ pub fn release(t: Table, stream: u32) -> Released
     requires { ⌜ WellFormed t ⌝ }
     ensures { λ r. ⌜ (heldNumber (r .answer) ≡ heldAnswer t stream) × (putIn t (r .place) freeEntry ≡ withdrawn t stream) ⌝ }
 {
-    let place = survey::place_of(t, stream);
+    let place = finding::place_of(t, stream);
     let answer = held_at(place);
     Released { answer, place }
 }
@@ -64,7 +64,7 @@ pub fn enquire(t: Table, stream: u32) -> Enquiry
     requires { ⌜ WellFormed t ⌝ }
     ensures { λ r. ⌜ (heldNumber (r .answer) ≡ heldAnswer t stream) × (r .entry ≡ enquired t stream) ⌝ }
 {
-    let found = survey::place_of(t, stream);
+    let found = finding::place_of(t, stream);
     let answer = held_at(found);
     if found < 32 {
         let entry = t.entries[found];

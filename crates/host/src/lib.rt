@@ -6,12 +6,10 @@ ghost use mathlib.Core.Bool.{cond};
 ghost use mathlib.Core.Path.{_≡_};
 ghost use lib.Dec.{eqb};
 ghost use lib.ListN.{length, take, drop};
-ghost use Rattle.lists.specs.First.{firstOf};
 ghost use Rattle.rules.specs.Calls.{openAnswer, opened, offerAnswer, offered, heldAnswer, withdrawn, beacon};
 ghost use Rattle.rules.specs.Reading.{enquired, windowAnswer, windowPart};
 ghost use Rattle.rules.specs.WellFormed.{WellFormed};
 ghost use Rattle.admission.specs.Six.{request};
-ghost use Rattle.survey.specs.Search.{isHeldAs};
 use model::Entry;
 use model::Request;
 use model::Table;
@@ -28,24 +26,6 @@ pub struct Sent {
 pub struct Found {
     pub answer: u32,
     pub entry: Entry,
-}
-
-// ---- a stream's place
-// The place of the stream in the lent table, 32 where it has none. It is looked for where the table lies.
-fn place_in(table: &Table, stream: u32) -> usize
-    ensures { λ r. ⌜ r ≡ firstOf (isHeldAs stream) (now (table .entry) .entries) ⌝ }
-{
-    // Stream 0 stands for a free place, and is held by nobody.
-    if stream == 0 {
-        return 32;
-    }
-    for i in 0..32 {
-        let e = table.entries[i];
-        if e.stream == stream {
-            return i;
-        }
-    }
-    32
 }
 
 // ---- the calls on a lent table
@@ -102,7 +82,7 @@ pub extern "C" fn gelmush_withdraw(table: &mut Table, stream: u32) -> u32
     requires { ⌜ WellFormed (now table) ⌝ }
     ensures { λ r. let t = now (table .entry) in ⌜ (r ≡ heldAnswer t stream) × (now (table .exit) ≡ withdrawn t stream) ⌝ }
 {
-    let at = place_in(table, stream);
+    let at = finding::place_in(table, stream);
     if at < 32 {
         let free = model::free_entry();
         table.entries[at] = free;
@@ -128,7 +108,7 @@ pub extern "C" fn gelmush_enquire(table: &Table, stream: u32) -> Found
     requires { ⌜ WellFormed (now table) ⌝ }
     ensures { λ r. let t = now (table .entry) in ⌜ (r .answer ≡ heldAnswer t stream) × (r .entry ≡ enquired t stream) ⌝ }
 {
-    let found = place_in(table, stream);
+    let found = finding::place_in(table, stream);
     if found < 32 {
         let entry = table.entries[found];
         return Found { answer: 0, entry };

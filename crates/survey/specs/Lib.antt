@@ -1,3 +1,3 @@
 pub mod Needed
-pub mod Search
+pub mod Free
 pub mod Passes

@@ -27,7 +27,8 @@ use Rattle.queue.specs.Queues.{Used}
 use Rattle.ahead.specs.Even.{evenly}
 use Rattle.survey.specs.declared.Survey.{Survey}
 use Rattle.even.specs.Need.{evenNeed}
-use Rattle.survey.specs.Search.{isHeldAs, isFree, held-as}
+use Rattle.finding.specs.Search.{isHeldAs, held-as}
+use Rattle.survey.specs.Free.{isFree}
 
 -- what a pass has found, with the entry at place i
 abbrev pub withEntry : (stream i : ℕ) → Entry → Survey → Survey
@@ -58,12 +59,13 @@ with-free stream i e s z n =
     or-none false = refl
 
 -- a held one
-pub with-held : (stream i : ℕ) (e : Entry) (s : Survey) {b : Bool} {f m : ℕ} → e .stream ≢ 0 → b ≡ (s .taken || isHeldAs stream e)
+pub with-held : (stream i : ℕ) (e : Entry) (s : Survey) {b : Bool} {f m : ℕ} → e .stream ≢ 0 → b ≡ (s .taken || isStream stream e)
     → f ≡ cond (eqb (s .free) i) (i + 1) (s .free) → m ≡ s .needed + evenNeed e
     → record { taken = b; free = f; needed = m; used = i + 1 } ≡ withEntry stream i e s
 with-held stream i e s n t f m =
     let held : isFree e ≡ false = ap (λ b. not (not b)) (ne-eqb (e .stream) 0 n) in
-    same-survey t (f ∙ sym (ap (λ b. cond b (s .free) (cond (eqb (s .free) i) (i + 1) (s .free))) held)) m
+    same-survey (t ∙ sym (ap (λ b. s .taken || (not b && isStream stream e)) (ne-eqb (e .stream) 0 n)))
+    (f ∙ sym (ap (λ b. cond b (s .free) (cond (eqb (s .free) i) (i + 1) (s .free))) held)) m
     (sym (ap (λ b. cond b (s .used) (i + 1)) held))
 
 -- no entry of a table needs more: what kind 1 takes of an interval, and a 32-bit number over another, rounded up

@@ -1,6 +1,5 @@
-// What a call finds in a table's places in one pass: the place of a stream, the first free place, what an even share of each interval
-// takes, and the last place in use. One pass finds all that an offer asks before looking ahead, since each function that reads the places
-// has a copy of the table.
+// What an offer asks of a table's places before looking ahead: whether the stream is held, the first free place, what an even share of each
+// interval takes, and the last place in use. One pass finds all of it, since each function that reads the places has a copy of the table.
 ghost use mathlib.Core.Bool.{true, cond, _||_};
 ghost use mathlib.Core.Path.{_≡_};
 ghost use Prim.Native.Nat.{_+_, _*_, _≤_, _<_};
@@ -13,37 +12,12 @@ ghost use Rattle.laws.specs.Places.{Tidy};
 ghost use Rattle.queue.specs.Queues.{Used};
 ghost use Rattle.amounts.specs.Amounts.{loadOf};
 ghost use Rattle.even.specs.Need.{evenNeed};
-ghost use Rattle.survey.specs.Search.{isHeldAs, isFree};
+ghost use Rattle.survey.specs.Free.{isFree};
 ghost use Rattle.survey.specs.Passes.{withEntry, mostNeed};
 use model::Entry;
 use model::Slots;
 use model::Table;
 
-// Stream 0 stands for a free place, and is held by nobody.
-fn is_held_as(e: Entry, stream: u32) -> bool
-    ensures { λ r. ⌜ r ≡ isHeldAs stream e ⌝ }
-{
-    let own = e.stream;
-    if own == 0 {
-        return false;
-    }
-    own == stream
-}
-
-// The place of the entry that holds the stream; 32 where none does.
-pub fn place_of(t: Table, stream: u32) -> usize
-    ensures { λ r. ⌜ r ≡ firstOf (isHeldAs stream) (t .entries) ⌝ }
-{
-    for i in 0..32 {
-        let e = t.entries[i];
-        if is_held_as(e, stream) {
-            return i;
-        }
-    }
-    32
-}
-
-// ---- what an offer asks of the places
 // Whether the stream is held; the first free place, 32 where none is free; the slots of an interval that an even share takes; one more than
 // the last held place, 0 where none is held.
 pub struct Survey {
@@ -83,7 +57,7 @@ fn look_at(s: Survey, e: Entry, i: usize, stream: u32) -> Survey
     if own == 0 {
         return s;
     }
-    let taken = or_else(s.taken, is_held_as(e, stream));
+    let taken = or_else(s.taken, own == stream);
     let free = free_after(s.free, i);
     let need = even::need_of(e);
     Survey {

@@ -45,10 +45,11 @@ use Rattle.lent.proofs.Locals.{cell, enters, freed, keeps, value, sets, receive
 use Rattle.lent.proofs.Walk.{tests}
 use Rattle.lent.proofs.Entries.{at-place, IsEntry, typed-entry, entry-reached, entry-read}
 use Rattle.lent.proofs.Looked.{look as loan, Post, exits, look-meets, look-opens, look-shuts}
-use Rattle.host.proofs.Search.{Formed, IsPlace, Search, Free, searches, frees-entry}
-use Rattle.host.proofs.place_in.Symbol as search-def
-use Rattle.host.proofs.place_in.Symbol.{name as #host·place-in}
-use Rattle.host.proofs.place_in.Met as search-thm
+use Rattle.finding.proofs.Search.{IsPlace, Search, searches}
+use Rattle.host.proofs.Frees.{Formed, Free, frees-entry}
+use Rattle.finding.proofs.place_in.Symbol as search-def
+use Rattle.finding.proofs.place_in.Symbol.{name as #finding·place-in}
+use Rattle.finding.proofs.place_in.Met as search-thm
 use Rattle.host.proofs.gelmush_enquire.Key.{name as #host·gelmush-enquire}
 use Rattle.host.proofs.gelmush_enquire as lent′
 use Rattle.host.proofs.gelmush_enquire.Statement as stated
@@ -80,7 +81,7 @@ module _ (h : Table) (n : ℕ) (formed : WellFormed h) (p : ℕ) (e : IsPlace h 
   misses l = (held-answer h formed n e (rw (le-ltb p places l)), none-entry h formed n e l)
 
 module _ {M : Type 1} (𝓤 : URA M) (H : Heap 𝓤) (A : Atoms 𝓤) (at-mem : Memory → SProp 𝓤) (run : Routine → Fun 𝓤) where
-  module _ (W : Given 𝓤 H A) (𝓣 : Tables 𝓤 H) (search : Triple 𝓤 (𝓣 .C #host·place-in) (Search 𝓤 H A at-mem run))
+  module _ (W : Given 𝓤 H A) (𝓣 : Tables 𝓤 H) (search : Triple 𝓤 (𝓣 .C #finding·place-in) (Search 𝓤 H A at-mem run))
       (free : Triple 𝓤 (𝓣 .C #model·free-entry) (Free 𝓤 H A at-mem run))
       (κ : Lft) (q : Share) (b o : ℕ) (γ : GName) (h : Table) (n : ℕ) (fits : n < 2 ^ 32) where
     abbrev Ends : Val → SProp 𝓤
@@ -134,7 +135,7 @@ gelmush-enquire-spec 𝓤 H 𝓜 𝓖 𝓡 =
     entered 𝓤 H (tripleOf 𝓤 H (𝓖 .A) lent′.signature (lent′.spec 𝓤 H (𝓖 .A) (𝓜 .mem) (𝓡 .run)))
     (tables 𝓤 H 𝓜 𝓡 code.env .C) (tables 𝓤 H 𝓜 𝓡 code.env .Λ) #host·gelmush-enquire code.function (code.unfolded 𝓤 H 𝓜 𝓡)
     (look-meets 𝓤 F.the-row (Formed 𝓤) Says H (𝓖 .A) W 𝓣 code.function (walk 𝓤 H (𝓖 .A) (𝓜 .mem) (𝓡 .run) W 𝓣
-    (cited 𝓤 H (Search 𝓤 H (𝓖 .A) (𝓜 .mem) (𝓡 .run)) 𝓜 𝓡 code.env #host·place-in search-def.routine code.calls-host·place-in
+    (cited 𝓤 H (Search 𝓤 H (𝓖 .A) (𝓜 .mem) (𝓡 .run)) 𝓜 𝓡 code.env #finding·place-in search-def.routine code.calls-finding·place-in
     (search-thm.met 𝓤 H 𝓜 𝓖 𝓡))
     (cited 𝓤 H (Free 𝓤 H (𝓖 .A) (𝓜 .mem) (𝓡 .run)) 𝓜 𝓡 code.env #model·free-entry free-def.routine code.calls-model·free-entry
     (free-thm.met 𝓤 H 𝓜 𝓖 𝓡))))

@@ -1,5 +1,4 @@
-use mathlib.Core.Path.{ap, _∙_}
-use mathlib.Core.Bool.{_||_}
+use mathlib.Core.Path.{ap}
 use Prim.Native.Nat.{_+_}
 use native.Mathlib.Omega.{arith}
 use borrow.Author.Needs.{needs}
@@ -13,9 +12,6 @@ returns c =
     let p = c .before .pre in
     let most = p .0 .1 in
     (with-free _ _ _ (a .s) (c .if1 .taken) (p .1 .1), omega arith)
-
-is-held-as-requires : tie.Need-is-held-as-requires
-is-held-as-requires c κs = search needs
 
 or-else-requires : tie.Need-or-else-requires
 or-else-requires c κs = search needs
@@ -37,15 +33,13 @@ returns-2 c =
     let n = c .before in
     let f = n .before in
     let o = f .before in
-    let h = o .before in
-    let s = h .before .before in
+    let s = o .before .before in
     let p = s .pre in
     let most = p .0 .1 in
     let load = p .1 .0 in
     let need = n .need-of .ensures in
-    let small = need .1 in
-    let taken = o .or-else .ensures ∙ ap (λ b. s .args .s .taken || b) (h .is-held-as .ensures) in (
-      with-held _ _ _ (s .args .s) (h .before .if1 .left) taken (f .free-after .ensures) (ap (λ m. s .args .s .needed + m) (need .0)),
+    let small = need .1 in (
+      with-held _ _ _ (s .args .s) (o .before .if1 .left) (o .or-else .ensures) (f .free-after .ensures) (ap (λ m. s .args .s .needed + m) (need .0)),
       omega arith,
     )
 
@@ -54,7 +48,6 @@ look-at-spec =
     tie.close
     (tie.spec
     returns
-    is-held-as-requires
     or-else-requires
     free-after-requires
     need-of-requires

@@ -9,7 +9,7 @@ use Rattle.places.proofs.Known.{inside, past}
 use Rattle.queue.specs.Queues.{free-place}
 use Rattle.amounts.specs.Amounts.{loadOf}
 use Rattle.even.specs.Need.{evenNeed}
-use Rattle.survey.specs.Search.{isFree}
+use Rattle.survey.specs.Free.{isFree}
 use Rattle.survey.specs.Passes.{Passed, passed-none, passed-more, passed-all, free-needs}
 use Rattle.survey.proofs.survey_for.Statement.{statement}
 use Rattle.survey.proofs.survey_for.Tie as tie

@@ -1,5 +1,4 @@
--- Searches of a table's places: the place of a stream, the entry that is there, and that place given back; the first free place, and that
--- place taken. Assumes nothing.
+-- The place of a stream in a table: the entry that is there, and that place given back. Assumes nothing.
 use mathlib.Core.Path.{_≡_, refl, sym, ap, _∙_}
 use mathlib.Core.Logic.{_≢_}
 use mathlib.Core.Bool.{Bool, true, false, cond, not, _&&_, _||_}
@@ -7,29 +6,25 @@ use mathlib.Core.List.{List, [], _∷_, map}
 use Prim.Native.Nat.{ℕ, suc, _≤_, _<_}
 use native.Mathlib.Nat.{not-suc-le-zero, le-of-suc-le-suc}
 use native.Mathlib.Omega.{arith}
-use lib.Dec.{ltb, leb, eqb}
+use lib.Dec.{ltb, eqb}
 use lib.ListN.{length, getD, set}
-use borrow.Author.Tests.{ltb-false, eqb-true, ne-eqb, leb-true, le-leb}
+use borrow.Author.Tests.{ltb-false, eqb-true, ne-eqb}
 use Rattle.lists.specs.Lists.{one-if, cons-if, keep, sumOf, anyOf}
-use Rattle.lists.specs.Tests.{clash, same-test, and-false}
+use Rattle.lists.specs.Tests.{clash, and-false}
 use Rattle.lists.specs.All.{all-of, map-ext}
 use Rattle.lists.specs.Sums.{sum-ext, sum-keep}
 use Rattle.lists.specs.Loops.{any-keep}
-use Rattle.lists.specs.First.{firstOf, first-most, first-some, first-set, first-kept, kept-first}
+use Rattle.lists.specs.First.{firstOf, first-most, first-some, first-set}
 use Rattle.model.specs.Entries.{freeEntry, isHeld, isStream}
 use Rattle.model.specs.declared.Entry.{Entry}
 use Rattle.model.specs.declared.Table.{Table}
-use Rattle.rules.specs.Calls.{places, heldOf, holds, placed}
+use Rattle.rules.specs.Calls.{heldOf, holds}
 use Rattle.rules.specs.Reading.{entryFor}
 use Rattle.rules.specs.WellFormed.{Once}
 
 abbrev pub isHeldAs : ℕ → Entry → Bool
 isHeldAs s e = isHeld e && isStream s e
 
-abbrev pub isFree : Entry → Bool
-isFree e = not (isHeld e)
-
--- ---- the place of a stream
 pub held-as : (t : Table) (s : ℕ) → anyOf (isHeldAs s) (t .entries) ≡ holds t s
 held-as t s = sym (any-keep (isStream s) isHeld (t .entries))
 
@@ -116,21 +111,3 @@ place-freed t s w h =
     somebody : s ≢ 0
     somebody z =
         clash (holds t s) h (sym (held-as t s) ∙ ap (λ n. anyOf (isHeldAs n) (t .entries)) z ∙ nobody-0 (t .entries))
-
--- ---- the first free place
-pub place-taken : (e : Entry) (es : List Entry) → set es (firstOf isFree es) e ≡ placed e es
-unfolding firstOf placed
-place-taken e [] = refl
-place-taken e (f ∷ fs) = go (isHeld f) (place-taken e fs)
-  where
-    go : (b : Bool) → set fs (firstOf isFree fs) e ≡ placed e fs
-        → set (f ∷ fs) (cond (not b) 0 (suc (firstOf isFree fs))) e ≡ cond b (f ∷ placed e fs) (e ∷ fs)
-    go true h = ap (λ l. f ∷ l) h
-    go false h = refl
-
-pub place-full : (es : List Entry) → length es ≡ places → leb places (firstOf isFree es) ≡ leb places (length (keep isHeld es))
-place-full es l =
-    same-test (leb places (firstOf isFree es)) (leb places (length (keep isHeld es)))
-    (λ h. let k = leb-true places (firstOf isFree es) h in le-leb places (length (keep isHeld es)) (omega (arith, first-kept isHeld es)))
-    (λ h. let k = leb-true places (length (keep isHeld es)) h in let m : length es ≤ length (keep isHeld es) = omega arith in
-    le-leb places (firstOf isFree es) (omega (arith, kept-first isHeld es m)))

@@ -1,5 +1,5 @@
--- The calls that a withdrawal and an enquiry make, as steps of their walks: the search for a stream's place in a table that lies in
--- memory, and the free entry. Assumes nothing.
+-- The search in a lent table, as a step of a walk: of a function that has the table as shared, and of one that has it whole. Assumes
+-- nothing.
 use mathlib.Core.Path.{_≡_, refl, ap, subst}
 use Prim.Native.Nat.{ℕ, _<_, _^_}
 use mathlib.Core.List.{[], _∷_, List}
@@ -24,45 +24,29 @@ use denote.Builtin.{usize}
 use denote.Lend.{lends-shr}
 use denote.Ref.{RefT, ShrRef}
 use denote.Steps.{only, facts, heard, nothing}
-use denote.Struct.Laws as LL
 use denote.Triple.Spec.{tripleOf}
 use denote.Triple.Statement.{Contract, Triple}
 use denote.Triple.Call.{calls-at}
 use denote.Triple.Clauses.{ensured, lasts}
 use Rattle.lists.specs.First.{firstOf}
-use Rattle.model.specs.Entries.{freeEntry}
 use Rattle.model.specs.declared.Table.{Table}
-use Rattle.model.proofs.Entry as N
-use Rattle.model.proofs.Entry.Laws as N′
 use Rattle.model.proofs.Table as T
-use Rattle.model.proofs.free_entry as free
-use Rattle.model.proofs.free_entry.Symbol.{name as #model·free-entry}
-use Rattle.rules.specs.WellFormed.{WellFormed}
-use Rattle.survey.specs.Search.{isHeldAs}
+use Rattle.finding.specs.Search.{isHeldAs}
 use Rattle.lent.proofs.Lent.{lent, number}
-use Rattle.lent.proofs.Walk.{Gives, gives, calls-value}
-use Rattle.lent.proofs.Entries.{tableAt, entryVal, IsEntry}
+use Rattle.lent.proofs.Entries.{tableAt}
 use Rattle.lent.proofs.Looked.{look, Shared}
-use Rattle.host.proofs.place_in as search
-use Rattle.host.proofs.place_in.Symbol.{name as #host·place-in}
+use Rattle.finding.proofs.place_in as search
+use Rattle.finding.proofs.place_in.Symbol.{name as #finding·place-in}
 
 abbrev ref : ℕ → ℕ → GName → Table → RefT Table
 ref b o γ h = record { ptr = (b, o); name = γ; now = h }
-
--- what is required of a table that is searched
-abbrev pub Formed : {M : Type 1} (𝓤 : URA M) → Table → ℕ → SProp 𝓤
-Formed 𝓤 t stream = fact 𝓤 (WellFormed t)
 
 abbrev pub IsPlace : Table → ℕ → ℕ → Type 0
 IsPlace t stream p = p ≡ firstOf (isHeldAs stream) (t .entries)
 
 module _ {M : Type 1} (𝓤 : URA M) (H : Heap 𝓤) (A : Atoms 𝓤) (at-mem : Memory → SProp 𝓤) (run : Routine → Fun 𝓤) where
-  -- the contracts
   abbrev pub Search : Contract 𝓤
   Search = tripleOf 𝓤 H A search.signature (search.spec 𝓤 H A at-mem run)
-
-  abbrev pub Free : Contract 𝓤
-  Free = tripleOf 𝓤 H A free.signature (free.spec 𝓤 H A at-mem run)
 
   module _ (κ : Lft) (q : Share) (b o : ℕ) (γ : GName) (h : Table) (n : ℕ) where
     abbrev to-search : Search .Ghost
@@ -74,24 +58,15 @@ module _ {M : Type 1} (𝓤 : URA M) (H : Heap 𝓤) (A : Atoms 𝓤) (at-mem : 
         number ! n fits $ fjoin ! $ move ! (1 ∷ 0 ∷ []) $ fjoin ! $ nothing ! $
         move ! (2 ∷ 0 ∷ []) $ join ! $ join ! $ nothing ! $ move ! (1 ∷ 0 ∷ []) $ done !
 
-  free-asked : Given 𝓤 H A → ent 𝓤 (emp 𝓤) (Free .pre ((tt, tt, tt, tt, tt), tt))
-  free-asked W = qed W [] ∵ nothing ! $ nothing ! $ nothing ! $ join ! $ done !
-
-  free-given : Given 𝓤 H A → (w : Val)
-      → ent 𝓤 (Free .post ((tt, tt, tt, tt, tt), tt) w) (mean 𝓤 H A (Gives 𝓤 N.the-row (λ e. e ≡ freeEntry) w))
-  free-given W w =
-      gives 𝓤 H A W N.the-row (λ e. e ≡ freeEntry) w (ensured 𝓤 H A free.ended (free.clauses 𝓤 H A at-mem run) tt tt tt)
-      (λ e. exE 𝓤 _ (λ ws. snd∗ 𝓤 (sem 𝓤 H A (lasts free.ended tt tt ws)) (fact 𝓤 (e ≡ freeEntry))))
-
 module _ {M : Type 1} {𝓤 : URA M} {H : Heap 𝓤} {A : Atoms 𝓤} (at-mem : Memory → SProp 𝓤) (run : Routine → Fun 𝓤) {W : Given 𝓤 H A}
     {Γ : List (Item 𝓤)} {C : Calls 𝓤 H} {Λ : Loops 𝓤 H} {E : Env 𝓤 H} {Q : Post 𝓤 H} {xs : List Operand} {d : Place} {rest : Code} where
   -- the search in a table that is lent as shared: the loan is given up, and its token comes back
-  pub searches : Go {0} → FmC 𝓤 H (W .laws) C → Triple 𝓤 (C #host·place-in) (Search 𝓤 H A at-mem run)
+  pub searches : Go {0} → FmC 𝓤 H (W .laws) C → Triple 𝓤 (C #finding·place-in) (Search 𝓤 H A at-mem run)
       → {κ : Lft} {q : Share} {γ : GName} (b o : ℕ) (h : Table) (n : ℕ) → n < 2 ^ 32
       → Opds (Go {0}) W (raw (Search 𝓤 H A at-mem run .pre (to-search 𝓤 H A at-mem run κ q b o γ h n)) ∷ Γ) E xs
       (vptr b o ∷ vint w32 n ∷ [])
       → ((p : ℕ) → IsPlace h n p → p < 2 ^ 64 → Seq (Go {0}) W (‵ (flft κ q) ∷ Γ) (lands C Λ E d (vint w64 p) rest Q))
-      → Seq (Go {0}) W (‵ (fres γ (lent h)) ∷ ‵ (look κ h b o) ∷ ‵ (flft κ q) ∷ Γ) (runs C Λ E (seq (call #host·place-in xs d) rest) Q)
+      → Seq (Go {0}) W (‵ (fres γ (lent h)) ∷ ‵ (look κ h b o) ∷ ‵ (flft κ q) ∷ Γ) (runs C Λ E (seq (call #finding·place-in xs d) rest) Q)
   searches z fm known {κ} {q} {γ} b o h n fits os k =
       use3 W (raw (Search 𝓤 H A at-mem run .pre (to-search 𝓤 H A at-mem run κ q b o γ h n)))
       (search-asked 𝓤 H A at-mem run κ q b o γ h n W fits) $
@@ -105,25 +80,15 @@ module _ {M : Type 1} {𝓤 : URA M} {H : Heap 𝓤} {A : Atoms 𝓤} (at-mem : 
       facts ! usize (Is usize) (shows 𝓤 H A usize) p (w ∷ []) (λ is. split ! $ move ! (1 ∷ []) $ drop ! $
       regoal ! (λ v. lands C Λ E d v rest Q) (ap only (is .0)) refl $ k p e (is .1)))))
 
-  -- the free entry
-  pub frees-entry : Go {0} → FmC 𝓤 H (W .laws) C → Triple 𝓤 (C #model·free-entry) (Free 𝓤 H A at-mem run)
-      → Opds (Go {0}) W (raw (Free 𝓤 H A at-mem run .pre ((tt, tt, tt, tt, tt), tt)) ∷ Γ) E xs []
-      → (IsEntry freeEntry → Seq (Go {0}) W Γ (lands C Λ E d (entryVal freeEntry) rest Q))
-      → Seq (Go {0}) W Γ (runs C Λ E (seq (call #model·free-entry xs d) rest) Q)
-  frees-entry z fm known os k =
-      calls-value ! fm N.the-row entryVal (LL.tells N.the-type N′.the-laws) (λ e. e ≡ freeEntry) (Free 𝓤 H A at-mem run) known
-      ((tt, tt, tt, tt, tt), tt) (free-asked 𝓤 H A at-mem run W) (free-given 𝓤 H A at-mem run W) os (λ e same is.
-      regoal ! (λ v. lands C Λ E d (entryVal v) rest Q) same refl $ k (subst IsEntry same is))
-
 module _ {M : Type 1} {𝓤 : URA M} {H : Heap 𝓤} {A : Atoms 𝓤} (at-mem : Memory → SProp 𝓤) (run : Routine → Fun 𝓤) {W : Given 𝓤 H A}
     {Γ : List (Item 𝓤)} {C : Calls 𝓤 H} {Λ : Loops 𝓤 H} {E : Env 𝓤 H} {Q : Post 𝓤 H} {xs : List Operand} {d : Place} {rest : Code} where
   -- the search in a table that is had whole: it is lent for the call, and is back after it
-  pub searches-whole : Go {0} → FmC 𝓤 H (W .laws) C → Triple 𝓤 (C #host·place-in) (Search 𝓤 H A at-mem run)
+  pub searches-whole : Go {0} → FmC 𝓤 H (W .laws) C → Triple 𝓤 (C #finding·place-in) (Search 𝓤 H A at-mem run)
       → (b o : ℕ) (h : Table) (n : ℕ) → n < 2 ^ 32
       → ((α : ℕ) (γ : GName) → Opds (Go {0}) W (raw (Search 𝓤 H A at-mem run .pre (to-search 𝓤 H A at-mem run (α ∷ []) fullShare b o γ h n))
       ∷ ‵ (flent (α ∷ []) (tableAt fullShare h b o)) ∷ Γ) E xs (vptr b o ∷ vint w32 n ∷ []))
       → ((p : ℕ) → IsPlace h n p → p < 2 ^ 64 → Seq (Go {0}) W (‵ (tableAt fullShare h b o) ∷ Γ) (lands C Λ E d (vint w64 p) rest Q))
-      → Seq (Go {0}) W (‵ (tableAt fullShare h b o) ∷ Γ) (runs C Λ E (seq (call #host·place-in xs d) rest) Q)
+      → Seq (Go {0}) W (‵ (tableAt fullShare h b o) ∷ Γ) (runs C Λ E (seq (call #finding·place-in xs d) rest) Q)
   searches-whole z fm known b o h n fits os k =
       lft-new ! tt (λ α. move ! (1 ∷ []) $
       use1 W (later (some (λ (γ : GName). ‵ (ShrRef (named 0) (α ∷ []) T.the-row .own (ref b o γ h) (vptr b o ∷ []))

@@ -38,16 +38,17 @@ use Rattle.model.specs.declared.Table.{Table}
 use Rattle.model.proofs.Entry.Laws as N′
 use Rattle.model.proofs.Table as T
 use Rattle.places.proofs.Known.{inside, past}
-use Rattle.survey.specs.Search.{isHeldAs, held-by-number, place-nobody}
+use Rattle.finding.specs.Search.{isHeldAs, held-by-number}
+use Rattle.finding.proofs.Nobody.{nobody}
 use Rattle.lent.proofs.Lent.{lent}
 use Rattle.lent.proofs.Locals.{locals, cell, enters, freed, forgets, keeps, value, part, sets}
 use Rattle.lent.proofs.Walk.{is-true, is-false, tests}
 use Rattle.lent.proofs.Entries.{tableAt, at-place, typed-entry, entry-reached, entry-read}
 use Rattle.lent.proofs.Looked.{look as loan, Shared, Post, exits, look-meets, look-opens, look-shuts}
-use Rattle.host.proofs.place_in.Key.{name as #host·place-in}
-use Rattle.host.proofs.place_in as lent′
-use Rattle.host.proofs.place_in.Statement as stated
-use Rattle.host.proofs.place_in.Code as code
+use Rattle.finding.proofs.place_in.Key.{name as #finding·place-in}
+use Rattle.finding.proofs.place_in as lent′
+use Rattle.finding.proofs.place_in.Statement as stated
+use Rattle.finding.proofs.place_in.Code as code
 
 abbrev Says : Table → ℕ → ℕ → Type 0
 Says t stream r = r ≡ firstOf (isHeldAs stream) (t .entries)
@@ -57,13 +58,6 @@ record Turn (t : Table) (stream : ℕ) : Type 0 where
   i : ℕ
   upto : i ≤ 32
   so : i + firstOf (isHeldAs stream) (drop i (t .entries)) ≡ firstOf (isHeldAs stream) (t .entries)
-
--- stream 0 is held by nobody
-nobody : (t : Table) {vs : List Val} → Is T.the-row t vs → (stream : ℕ) → stream ≡ 0 → Says t stream 32
-nobody t was stream z =
-    let most : length (t .entries) ≤ 32 = past t was (omega arith) in
-    let least : 31 < length (t .entries) = inside t was (omega arith) in
-    omega (arith, ap (λ s. firstOf (isHeldAs s) (t .entries)) z, place-nobody (t .entries))
 
 module _ {M : Type 1} (𝓤 : URA M) (H : Heap 𝓤) (A : Atoms 𝓤) (W : Given 𝓤 H A) (𝓣 : Tables 𝓤 H)
     (κ : Lft) (q : Share) (b o : ℕ) (γ : GName) (h : Table) (n : ℕ) (fits : n < 2 ^ 32) where
@@ -185,5 +179,5 @@ place-in-spec 𝓤 H 𝓜 𝓖 𝓡 =
     let W = givenOf 𝓤 H 𝓜 𝓖 in
     let 𝓣 = tablesOf 𝓤 H 𝓜 (tables 𝓤 H 𝓜 𝓡 code.env) in
     entered 𝓤 H (tripleOf 𝓤 H (𝓖 .A) lent′.signature (lent′.spec 𝓤 H (𝓖 .A) (𝓜 .mem) (𝓡 .run)))
-    (tables 𝓤 H 𝓜 𝓡 code.env .C) (tables 𝓤 H 𝓜 𝓡 code.env .Λ) #host·place-in code.function (code.unfolded 𝓤 H 𝓜 𝓡)
+    (tables 𝓤 H 𝓜 𝓡 code.env .C) (tables 𝓤 H 𝓜 𝓡 code.env .Λ) #finding·place-in code.function (code.unfolded 𝓤 H 𝓜 𝓡)
     (look-meets 𝓤 usize (λ t n. emp 𝓤) Says H (𝓖 .A) W 𝓣 code.function (walk 𝓤 H (𝓖 .A) W 𝓣))

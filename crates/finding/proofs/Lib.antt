@@ -1,0 +1,2 @@
+mod Nobody
+pub mod Search
