@@ -17,7 +17,7 @@ scratch = $(shell awk '$$2 == "/dev/shm" && $$4 !~ /noexec/' /proc/mounts | grep
     | awk 'NR == 2 && $$1 > 8000000 { print "/dev/shm" }')
 test: reference compared
 	@rt fmt --check
-	@log=$$(mktemp) && RT_JOBS=6 TMPDIR=$(or $(scratch),$(TMPDIR),/tmp) rt ci | tee $$log && $(MAKE) bindings failures && tail -n 1 $$log && rm $$log
+	@log=$$(mktemp) && RT_JOBS=6 TMPDIR=$(or $(TMPDIR),$(scratch),/tmp) rt ci | tee $$log && $(MAKE) bindings failures && tail -n 1 $$log && rm $$log
 
 reference:
 	@cargo test --offline --release --quiet --manifest-path reference/Cargo.toml
