@@ -1,0 +1,165 @@
+-- What `shelf` prints is what histories show, proved. From any table, the rows up to the next opening that succeeds show the history of
+-- their calls and leave its table (`table-told`); where there is no table, each call answers 51 (`first-told`). Both go row by row, and an
+-- opening that succeeds goes on from its own table. Demand 3 is then that of each history. Assumes nothing.
+use mathlib.Core.Path.{_≡_, refl, sym, ap, _∙_}
+use mathlib.Core.Bool.{Bool, true, false, cond, not}
+use mathlib.Core.List.{List, [], _∷_, _++_, map, append-assoc}
+use Prim.Native.Nat.{ℕ}
+use native.Mathlib.Omega.{arith}
+use lib.Dec.{eqb}
+use borrow.Author.Tests.{eqb-true}
+use lib.ListN.{length, take, length-replicate}
+use Rattle.lists.specs.Lists.{within, concatMap}
+use Rattle.lists.specs.Tests.{clash}
+use Rattle.lists.specs.All.{stop, and, all-map}
+use Rattle.model.specs.Requests.{refusal}
+use Rattle.model.specs.declared.Table.{Table}
+use Rattle.commands.specs.Commands.{openVerb}
+use Rattle.commands.specs.declared.Command.{Command}
+use Rattle.commands.specs.declared.Command.the-variants.{Open, Offer as OfferRow, Withdraw as WithdrawRow, Beacon as BeaconRow, OtherForm}
+use Rattle.rules.specs.Calls.{openAnswer, opened, offered, withdrawn, planOf, advanced, Beacon as Sent}
+use Rattle.printing.specs.Printed.{headerRow, plainRow}
+use Rattle.meaning.specs.declared.State.{State}
+use Rattle.meaning.specs.Meaning.{firstState, withTable, stateAfter, rowsFor, printed, outputOf}
+use Rattle.meaning.specs.Room.{planWords}
+use Rattle.meaning.specs.Plans.{planned}
+use Rattle.between.specs.Whole.{stateRun, whole-output}
+use Rattle.guarantee.specs.History.{Call, Beacon, Seen, Planned, seen, after, history}
+use Rattle.guarantee.specs.Planned.{records-back}
+use Rattle.guarantee.specs.Proof.{tableAfter, demand3}
+use Rattle.law_shelf.specs.Segments.{Segment, Cut, goesOn, opens, cut, Refused, Cuts}
+use Rattle.law_shelf.specs.Segments.{memory, callsOf, rowsSeen, shown, unopened, segmentRows, leaves, commands, ShelfKeeps}
+
+-- ---- an opening answers 0 or 1
+open-refused : (u : ℕ) → eqb (openAnswer u) 0 ≡ false → openAnswer u ≡ 1
+unfolding openAnswer refusal
+open-refused u = go (within 1 1000 u)
+  where
+    go : (b : Bool) → eqb (cond (not b) 1 0) 0 ≡ false → cond {A = ℕ} (not b) 1 0 ≡ 1
+    go true e = absurd (clash true refl e)
+    go false e = refl
+
+open-within : (u : ℕ) → openAnswer u ≡ 0 → within 1 1000 u ≡ true
+unfolding openAnswer refusal
+open-within u = go (within 1 1000 u)
+  where
+    go : (b : Bool) → cond {A = ℕ} (not b) 1 0 ≡ 0 → b ≡ true
+    go true e = refl
+    go false e = absurd (omega arith)
+
+opens-zero : (u : ℕ) → eqb (openAnswer u) 0 ≡ true → openAnswer u ≡ 0
+opens-zero u = eqb-true (openAnswer u) 0
+
+-- ---- the cut
+goes-on : {c : Command} {cs : List Command} {k : Cut} → Refused c → Cuts cs k → Cuts (c ∷ cs) (goesOn c k)
+goes-on {c} r h = record { all = ap (λ l. c ∷ l) (h .all); early = and r (h .early); segments = h .segments }
+
+cut-right : (cs : List Command) → Cuts cs (cut cs)
+unfolding cut
+cut-right [] = record { all = refl; early = stop; segments = stop }
+cut-right (Open u ∷ cs) = go (eqb (openAnswer u) 0) refl (cut-right cs)
+  where
+    go : (b : Bool) → eqb (openAnswer u) 0 ≡ b → {k : Cut} → Cuts cs k → Cuts (Open u ∷ cs) (opens b u k)
+    go true e h =
+        record { all = ap (λ l. Open u ∷ l) (h .all); early = stop; segments = and (opens-zero u e, h .early) (h .segments) }
+    go false e h = goes-on (λ v q. cc (open-refused u e)) h
+cut-right (OfferRow q ∷ cs) = goes-on (λ u e. cc) (cut-right cs)
+cut-right (WithdrawRow s ∷ cs) = goes-on (λ u e. cc) (cut-right cs)
+cut-right (BeaconRow ∷ cs) = goes-on (λ u e. cc) (cut-right cs)
+cut-right (OtherForm ∷ cs) = goes-on (λ u e. cc) (cut-right cs)
+
+-- ---- a beacon with as many words as the program lends
+module _ (t : Table) (ws : List ℕ) (room : length ws ≡ planWords) where
+  beacon-seen : seen t (Beacon ws) ≡ Planned planWords 0 (planOf t)
+  unfolding seen
+  beacon-seen = rw (planned t ws (omega arith), room, records-back) refl
+
+  beacon-after : after t (Beacon ws) ≡ advanced t
+  unfolding after
+  beacon-after = ap (λ (b : Sent). b .table) (planned t ws (omega arith))
+
+memory-length : length memory ≡ planWords
+unfolding memory
+memory-length = length-replicate {A = ℕ} planWords 0
+
+-- ---- row by row
+-- the bytes `out` are the bytes `shows` of early rows and then those of segments; the early rows leave the state `mid`, and all `end`
+record Told (out : List ℕ) (end : State) (shows : List ℕ) (mid : State) (gs : List Segment) : Type 0 where
+  state : end ≡ leaves mid gs
+  rows : out ≡ shows ++ concatMap segmentRows gs
+
+row-told : {out shows : List ℕ} {end mid : State} {gs : List Segment} (row : List ℕ) → Told out end shows mid gs
+    → Told (row ++ out) end (row ++ shows) mid gs
+row-told row h = record { state = h .state; rows = ap (λ r. row ++ r) (h .rows) ∙ sym (append-assoc row _ _) }
+
+-- the same of the rows cs from state s on, where vs is seen of the early calls
+abbrev From : State → List Command → List Seen → State → Type 0
+From s cs vs mid = Told (printed s cs) (stateRun s cs) (shown (cut cs .early) vs) mid (cut cs .segments)
+
+abbrev earlyCalls : List Command → List Call
+earlyCalls cs = callsOf (cut cs .early)
+
+-- a history from table t
+abbrev FromTable : Table → List Command → Type 0
+FromTable t cs = From (withTable t) cs (history t (earlyCalls cs)) (withTable (tableAfter t (earlyCalls cs)))
+
+-- an opening: one that succeeds goes on from its own table, whatever calls before it show (vs) and leave (mid); a refused one shows 1
+open-told : (s : State) (vs : List Call → List Seen) (mid : List Call → State) (u : ℕ) (cs : List Command) → FromTable (opened u) cs
+    → From s cs (vs (earlyCalls cs)) (mid (earlyCalls cs))
+    → let ks = earlyCalls (Open u ∷ cs) in From s (Open u ∷ cs) (vs ks) (mid ks)
+unfolding cut leaves stateRun stateAfter printed rowsFor shown
+open-told s vs mid u cs h k = go (eqb (openAnswer u) 0) refl
+  where
+    go : (b : Bool) → eqb (openAnswer u) 0 ≡ b
+        → let c = opens b u (cut cs) in
+        let next = cond b (withTable (opened u)) s in
+        Told (plainRow openVerb (openAnswer u) ++ printed next cs) (stateRun next cs) (shown (c .early) (vs (callsOf (c .early))))
+        (mid (callsOf (c .early))) (c .segments)
+    go true e = record { state = h .state; rows = rw (opens-zero u e) (row-told (plainRow openVerb 0) h .rows) }
+    go false e = rw (open-refused u e) (row-told (plainRow openVerb 1) k)
+
+-- from a table, each call is a step of the history
+table-told : (t : Table) (cs : List Command) → FromTable t cs
+unfolding cut leaves stateRun stateAfter printed rowsFor shown tableAfter history seen after
+table-told t [] = record { state = refl; rows = refl }
+table-told t (Open u ∷ cs) =
+    open-told (withTable t) (history t) (λ ks. withTable (tableAfter t ks)) u cs (table-told (opened u) cs) (table-told t cs)
+table-told t (OfferRow q ∷ cs) = row-told (rowsFor (withTable t) (OfferRow q)) (table-told (offered t q) cs)
+table-told t (WithdrawRow s ∷ cs) = row-told (rowsFor (withTable t) (WithdrawRow s)) (table-told (withdrawn t s) cs)
+table-told t (BeaconRow ∷ cs) =
+    go (beacon-seen t memory memory-length) (beacon-after t memory memory-length) (table-told (advanced t) cs)
+  where
+    go : {v : Seen} {u : Table} → v ≡ Planned planWords 0 (planOf t) → u ≡ advanced t → FromTable (advanced t) cs
+        → Told (rowsFor (withTable t) BeaconRow ++ printed (withTable (advanced t)) cs) (stateRun (withTable (advanced t)) cs)
+        (rowsSeen v ++ shown (cut cs .early) (history u (earlyCalls cs))) (withTable (tableAfter u (earlyCalls cs))) (cut cs .segments)
+    go e f h = rw (e, f) (row-told (rowsFor (withTable t) BeaconRow) h)
+table-told t (OtherForm ∷ cs) = row-told (rowsFor (withTable t) OtherForm) (table-told t cs)
+
+-- before the first opening, no call is
+first-told : (cs : List Command) → From firstState cs (map unopened (earlyCalls cs)) firstState
+unfolding firstState cut leaves stateRun stateAfter printed rowsFor shown
+first-told [] = record { state = refl; rows = refl }
+first-told (Open u ∷ cs) = open-told firstState (map unopened) (λ ks. firstState) u cs (table-told (opened u) cs) (first-told cs)
+first-told (OfferRow q ∷ cs) = row-told (rowsFor firstState (OfferRow q)) (first-told cs)
+first-told (WithdrawRow s ∷ cs) = row-told (rowsFor firstState (WithdrawRow s)) (first-told cs)
+first-told (BeaconRow ∷ cs) = row-told (rowsFor firstState BeaconRow) (first-told cs)
+first-told (OtherForm ∷ cs) = row-told (rowsFor firstState OtherForm) (first-told cs)
+
+-- ---- the theorem
+pub shelf-keeps : (input : List ℕ) → ShelfKeeps input
+unfolding outputOf
+shelf-keeps input =
+    record {
+      chunks = λ ps e. whole-output ps ∙ ap outputOf e;
+      cuts = cut-right cs;
+      output = ap (λ r. headerRow ++ r) (first-told cs .rows);
+      table = λ n. first-told (take n cs) .state;
+      lent = λ t ws h. (
+        beacon-seen t ws h ∙ sym (beacon-seen t memory memory-length),
+        beacon-after t ws h ∙ sym (beacon-after t memory memory-length),
+      );
+      kept = all-map (λ g h n. demand3 (g .units) (open-within (g .units) (h .0)) (callsOf (take n (g .rows)))) (cut-right cs .segments);
+    }
+  where
+    cs : List Command
+    cs = commands input

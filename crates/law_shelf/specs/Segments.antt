@@ -1,0 +1,147 @@
+-- What `shelf` prints is what histories show. The rows of its input are cut at the openings that succeed; the rows from one to the next
+-- make the calls of one list, each row shows what is seen of its call, and demand 3 holds of that list. Document 01, "Reading, lending,
+-- printing" and "What a list of calls gives". docs/GUARANTEE.md reads the statement line by line. Assumes nothing.
+use mathlib.Core.Path.{_≡_}
+use mathlib.Core.Bool.{Bool, true, false}
+use mathlib.Core.List.{List, [], _∷_, _++_, map}
+use Prim.Native.Nat.{ℕ}
+use lib.Dec.{eqb}
+use lib.ListN.{length, take, drop, replicate}
+use Rattle.lists.specs.Lists.{concatMap}
+use Rattle.lists.specs.All.{All}
+use Rattle.text.specs.Rows.{rowsOf}
+use Rattle.commands.specs.Commands.{openVerb, offerVerb, withdrawVerb, beaconVerb, commandOf}
+use Rattle.commands.specs.declared.Command.{Command}
+use Rattle.commands.specs.declared.Command.the-variants.{Open, Offer as OfferRow, Withdraw as WithdrawRow, Beacon as BeaconRow, OtherForm}
+use Rattle.model.specs.declared.Table.{Table}
+use Rattle.rules.specs.Calls.{openAnswer, opened}
+use Rattle.printing.specs.Printed.{headerRow, plainRow, streamRow}
+use Rattle.meaning.specs.declared.State.{State}
+use Rattle.meaning.specs.Meaning.{firstState, withTable, rowVerb, slotRowOf, outputOf}
+use Rattle.meaning.specs.Room.{planWords}
+use Rattle.between.specs.Cutting.{firstShelf}
+use Rattle.between.specs.Whole.{stateRun, served}
+use Rattle.guarantee.specs.History.{Call, Offer, Withdraw, Beacon, Seen, Offered, Withdrew, Planned, seen, after, history}
+use Rattle.guarantee.specs.Demand.{Demand3}
+use Rattle.guarantee.specs.Proof.{tableAfter}
+
+-- ---- the cut
+-- a successful opening with its time units, and the rows up to the next one
+pub record Segment : Type 0 where
+  pub units : ℕ
+  pub rows : List Command
+
+-- the rows before the first successful opening, and the segments
+pub record Cut : Type 0 where
+  pub early : List Command
+  pub segments : List Segment
+
+-- one more row in front: of openings only one that succeeds begins a segment
+abbrev pub goesOn : Command → Cut → Cut
+goesOn c k = record { early = c ∷ k .early; segments = k .segments }
+
+abbrev pub opens : (succeeds : Bool) → ℕ → Cut → Cut
+opens true u k = record { early = []; segments = record { units = u; rows = k .early } ∷ k .segments }
+opens false u k = goesOn (Open u) k
+
+abbrev pub inFront : Command → Cut → Cut
+inFront (Open u) k = opens (eqb (openAnswer u) 0) u k
+inFront (OfferRow q) k = goesOn (OfferRow q) k
+inFront (WithdrawRow s) k = goesOn (WithdrawRow s) k
+inFront BeaconRow k = goesOn BeaconRow k
+inFront OtherForm k = goesOn OtherForm k
+
+unfoldable pub cut : List Command → Cut
+cut [] = record { early = []; segments = [] }
+cut (c ∷ cs) = inFront c (cut cs)
+
+-- what makes k the cut of the rows cs: every row is in its place, the opening of each segment succeeds, and no other does
+abbrev pub Refused : Command → Type 0
+Refused c = (u : ℕ) → c ≡ Open u → openAnswer u ≡ 1
+
+abbrev pub withOpening : Segment → List Command
+withOpening g = Open (g .units) ∷ g .rows
+
+pub record Cuts (cs : List Command) (k : Cut) : Type 0 where
+  pub all : cs ≡ k .early ++ concatMap withOpening (k .segments)
+  pub early : All Refused (k .early)
+  pub segments : All (λ g. (openAnswer (g .units) ≡ 0) × All Refused (g .rows)) (k .segments)
+
+-- ---- the calls that rows make
+-- as many words as the program lends a beacon
+unfoldable pub memory : List ℕ
+memory = replicate planWords 0
+
+-- a refused opening and a row of another form make none
+abbrev pub callOf : Command → List Call
+callOf (Open u) = []
+callOf (OfferRow q) = Offer q ∷ []
+callOf (WithdrawRow s) = Withdraw s ∷ []
+callOf BeaconRow = Beacon memory ∷ []
+callOf OtherForm = []
+
+abbrev pub callsOf : List Command → List Call
+callsOf cs = concatMap callOf cs
+
+-- ---- the rows that show them
+abbrev pub rowsSeen : Seen → List ℕ
+rowsSeen (Offered q a) = streamRow offerVerb (q .stream) a
+rowsSeen (Withdrew s a) = streamRow withdrawVerb s a
+rowsSeen (Planned n a rs) = plainRow beaconVerb a ++ concatMap slotRowOf rs
+
+abbrev pub nextRows : List Seen → List ℕ
+nextRows [] = []
+nextRows (v ∷ vs) = rowsSeen v
+
+-- the rows printed for the rows cs, where vs is seen of their calls: a call shows the next of vs, a refused opening 1, another form 50
+unfoldable pub shown : List Command → List Seen → List ℕ
+shown [] vs = []
+shown (Open u ∷ cs) vs = plainRow openVerb 1 ++ shown cs vs
+shown (OfferRow q ∷ cs) vs = nextRows vs ++ shown cs (drop 1 vs)
+shown (WithdrawRow s ∷ cs) vs = nextRows vs ++ shown cs (drop 1 vs)
+shown (BeaconRow ∷ cs) vs = nextRows vs ++ shown cs (drop 1 vs)
+shown (OtherForm ∷ cs) vs = plainRow rowVerb 50 ++ shown cs vs
+
+-- before the first successful opening each call answers 51, and there is no plan
+abbrev pub unopened : Call → Seen
+unopened (Offer q) = Offered q 51
+unopened (Withdraw s) = Withdrew s 51
+unopened (Beacon ws) = Planned (length ws) 51 []
+
+abbrev pub earlyRows : List Command → List ℕ
+earlyRows cs = shown cs (map unopened (callsOf cs))
+
+-- the opening's row, and those of the history from its table
+abbrev pub segmentRows : Segment → List ℕ
+segmentRows g = plainRow openVerb 0 ++ shown (g .rows) (history (opened (g .units)) (callsOf (g .rows)))
+
+-- the table that the last segment leaves
+unfoldable pub leaves : State → List Segment → State
+leaves s [] = s
+leaves s (g ∷ gs) = leaves (withTable (tableAfter (opened (g .units)) (callsOf (g .rows)))) gs
+
+-- ---- the statement
+module _ (input : List ℕ) where
+  abbrev pub commands : List Command
+  commands = map commandOf (rowsOf input)
+
+  abbrev pub earlyOf : List Command
+  earlyOf = cut commands .early
+
+  abbrev pub segmentsOf : List Segment
+  segmentsOf = cut commands .segments
+
+  pub record ShelfKeeps : Type 0 where
+    -- what the program serves, chunk by chunk and then the last row, is the output, in whatever chunks the input comes
+    pub chunks : (cs : List (List ℕ)) → concatMap (λ c. c) cs ≡ input → headerRow ++ served firstShelf cs ≡ outputOf input
+    -- every row of the input stands in the cut
+    pub cuts : Cuts commands (cut commands)
+    -- every byte of the output: the header, the rows that no table answers, and history after history
+    pub output : outputOf input ≡ headerRow ++ (earlyRows earlyOf ++ concatMap segmentRows segmentsOf)
+    -- the table after the first n rows is the one after the same calls
+    pub table : (n : ℕ) → let cs = take n commands in stateRun firstState cs ≡ leaves firstState (cut cs .segments)
+    -- whatever words the memory has that a beacon is lent, it shows and leaves the same
+    pub lent : (t : Table) (ws : List ℕ) → length ws ≡ planWords
+        → (seen t (Beacon ws) ≡ seen t (Beacon memory)) × (after t (Beacon ws) ≡ after t (Beacon memory))
+    -- demand 3, after the first n rows of each segment
+    pub kept : All (λ g. (n : ℕ) → Demand3 (g .units) (callsOf (take n (g .rows)))) segmentsOf
