@@ -5,11 +5,15 @@
  *     withdraw STREAM
  *     enquire STREAM
  *     beacon WORDS SEED                          lends so many words, filled from the seed
- *     window COUNT FROM UNTIL [PLACE WORD]...    over the words of the last beacon, with other words at these places
+ *     window COUNT FROM UNTIL [PLACE WORD]...    over the words of the last beacon, with other words at these places;
+ *                                                a place that was not lent is passed over
  *
+ * A line has one space before each number, may have any length, and ends with a line feed.
  * A printed line has: the answer; how many words changed that the call is to leave as they were; the records of a beacon, or where the
  * part of a window begins; then the words of the records, of the part, or of the entry. A line of another form ends the program, and so
  * does any call but open while no table is open. */
+#define _POSIX_C_SOURCE 200809L  /* for getline */
+
 #include <errno.h>
 #include <inttypes.h>
 #include <stdio.h>
@@ -19,7 +23,7 @@
 #include "gelmush.h"
 
 #define LENGTH(array) (sizeof(array) / sizeof(*array))
-#define LENT_MOST 4120                             /* words that a beacon may be lent here; */
+#define LENT_MOST 5200                             /* words that a beacon may be lent here; */
 #define MEMORY (LENT_MOST + GELMUSH_RECORD_WORDS)  /* those after them never are */
 
 typedef struct {
@@ -28,9 +32,12 @@ typedef struct {
     const uint32_t *words;
 } outcome;
 
+static char *line;  /* the one read last; it grows as lines do, */
+static size_t line_room;
 static unsigned long line_number;
-static unsigned long long numbers[15];  /* those of this line, */
-static size_t numbers_read;             /* so many of them */
+static unsigned long long *numbers;  /* and so do its numbers, */
+static size_t numbers_room;
+static size_t numbers_read;  /* of which there are so many */
 
 static gelmush_table table;
 static int is_open;
@@ -94,8 +101,8 @@ static outcome beacon(void) {
 static outcome window(void) {
     memcpy(found, plan, sizeof found);
     for (size_t i = 3; i < numbers_read; i += 2) {
-        if (numbers[i] >= lent) stop("a place that was not lent");
-        found[numbers[i]] = word(i + 1);
+        uint32_t other = word(i + 1);
+        if (numbers[i] < lent) found[numbers[i]] = other;
     }
     memcpy(shown, found, sizeof shown);
     uint32_t answer = UINT32_MAX;
@@ -129,25 +136,48 @@ static void make(const char *verb) {
     putchar('\n');
 }
 
-static void read_number(const char *digits) {
-    if (numbers_read == LENGTH(numbers)) stop("too many numbers");
-    if (strspn(digits, "0123456789") != strlen(digits)) stop("not a number");
-    errno = 0;
-    numbers[numbers_read++] = strtoull(digits, NULL, 10);
-    if (errno != 0) stop("a number past 64 bits");
+/* The next line, without its end; none where the input ends. */
+static int read_line(void) {
+    ssize_t length = getline(&line, &line_room, stdin);
+    if (length < 0) return 0;
+    line_number++;
+    if (line[length - 1] != '\n') stop("a line without its end");
+    line[length - 1] = '\0';
+    if (strlen(line) != (size_t)length - 1) stop("a byte 0");
+    return 1;
+}
+
+static void add_number(unsigned long long number) {
+    if (numbers_read == numbers_room) {
+        numbers_room = 2 * numbers_room + 16;
+        numbers = realloc(numbers, numbers_room * sizeof *numbers);
+        if (numbers == NULL) stop("no memory for so many numbers");
+    }
+    numbers[numbers_read++] = number;
+}
+
+/* The numbers of what follows a verb, one space before each. */
+static void read_numbers(const char *rest) {
+    numbers_read = 0;
+    while (*rest == ' ') {
+        const char *digits = rest + 1;
+        rest = digits + strspn(digits, "0123456789");
+        if (rest == digits) stop("not a number");
+        errno = 0;
+        unsigned long long number = strtoull(digits, NULL, 10);
+        if (errno != 0) stop("a number past 64 bits");
+        add_number(number);
+    }
+    if (*rest != '\0') stop("not a number");
 }
 
 int main(void) {
-    char line[512];
     memset(&table, 0xa5, sizeof table);  /* An opening asks nothing of what lies there. */
-    while (fgets(line, sizeof line, stdin) != NULL) {
-        line_number++;
-        if (strchr(line, '\n') == NULL) stop("a line without its end");
-        const char *verb = strtok(line, " \n");
-        if (verb == NULL) stop("an empty line");
-        numbers_read = 0;
-        for (const char *digits; (digits = strtok(NULL, " \n")) != NULL;) read_number(digits);
-        make(verb);
+    while (read_line()) {
+        char *rest = line + strcspn(line, " ");
+        read_numbers(rest);
+        *rest = '\0';
+        make(line);
     }
-    return ferror(stdin) || fflush(stdout) != 0 ? EXIT_FAILURE : EXIT_SUCCESS;
+    return feof(stdin) && fflush(stdout) == 0 && !ferror(stdout) ? EXIT_SUCCESS : EXIT_FAILURE;
 }
