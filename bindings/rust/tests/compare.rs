@@ -150,6 +150,15 @@ fn counts_past_32_bits() {
 }
 
 #[test]
+fn more_words_than_a_plan_and_long_lines() {
+    let mut list = List::of(&[Call::Open { units: 1 }, Call::Beacon { words: 5_200, seed: 1 }]);
+    let damage = (0..1_200).map(|record| (RECORD_WORDS * record + 2, record as u32)).collect();
+    list.add(Call::Window { count: 1_200, from: 100, until: 1_024, damage });
+    assert_eq!(list.expected.last().map(|given| (given.answer, given.words.len())), Some((0, 4 * 924)));
+    list.compare();
+}
+
+#[test]
 fn from_c_no_call_before_an_opening() {
     let calls = [
         Call::Offer(Offer::default()),
