@@ -2,6 +2,7 @@
 ghost use mathlib.Core.Path.{_≡_};
 ghost use Prim.Native.Nat.{_+_, _≤_};
 ghost use lib.ListN.{length};
+ghost use Rattle.refusals.specs.Numbers.{noTableNumber};
 ghost use Rattle.planner.specs.Moves.{Moves};
 ghost use Rattle.commands.specs.Commands.{beaconVerb};
 ghost use Rattle.commands.specs.declared.Command.the-variants.{Beacon};
@@ -21,10 +22,10 @@ pub struct Beaconing {
 // Where there is no table, there is none to move on.
 fn no_table(out: &mut [u8], at: usize) -> Beaconing
     requires { ⌜ at + answerMost ≤ length (now out) ⌝ }
-    ensures { λ r. let bs = plainRow beaconVerb 51 in
+    ensures { λ r. let bs = plainRow beaconVerb noTableNumber in
         ⌜ (r .used ≡ 0) × ((r .at ≡ at + length bs) × (now (out .exit) ≡ written (now (out .entry)) at bs)) ⌝ }
 {
-    let next = printing::plain_row(out, at, b"beacon", 51);
+    let next = printing::plain_row(out, at, b"beacon", refusals::NO_TABLE);
     let shares = Shares {
         pieces: [0; 32],
         extras: [0; 32],

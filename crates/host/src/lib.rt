@@ -86,9 +86,9 @@ pub extern "C" fn gelmush_withdraw(table: &mut Table, stream: u32) -> u32
     if at < 32 {
         let free = model::free_entry();
         table.entries[at] = free;
-        return 0;
+        return refusals::DONE;
     }
-    20
+    refusals::NOT_HELD
 }
 
 // Asks nothing of what lies in the table's place. Refused, it lies there still.
@@ -98,9 +98,9 @@ pub extern "C" fn gelmush_open(table: &mut Table, units: u32) -> u32
 {
     if ranges::is_within(1, 1000, units) {
         *table = opening::empty_table(1024 * units);
-        return 0;
+        return refusals::DONE;
     }
-    1
+    refusals::UNITS_OUTSIDE
 }
 
 #[no_mangle]
@@ -111,10 +111,16 @@ pub extern "C" fn gelmush_enquire(table: &Table, stream: u32) -> Found
     let found = finding::place_in(table, stream);
     if found < 32 {
         let entry = table.entries[found];
-        return Found { answer: 0, entry };
+        return Found {
+            answer: refusals::DONE,
+            entry,
+        };
     }
     let entry = model::free_entry();
-    Found { answer: 20, entry }
+    Found {
+        answer: refusals::NOT_HELD,
+        entry,
+    }
 }
 
 // ---- a window

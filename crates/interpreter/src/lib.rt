@@ -100,7 +100,9 @@ pub fn serve_rows(s: Shelf, chunk: &[u8], plan: &mut [u32], out: &mut [u8], at: 
                         table = advance::advance(table, b.used, shares);
                     }
                 }
-                Command::OtherForm => next = printing::plain_row(out, next, b"row", 50),
+                Command::OtherForm => {
+                    next = printing::plain_row(out, next, b"row", refusals::OTHER_FORM);
+                }
             }
         }
     }

@@ -8,6 +8,7 @@ use Rattle.lists.specs.Lists.{concatMap}
 use Rattle.model.specs.declared.Table.{Table}
 use Rattle.rules.specs.Slots.{Run}
 use Rattle.rules.specs.Calls.{openAnswer, opened, offerAnswer, offered, heldAnswer, withdrawn, planOf, advanced, beacon}
+use Rattle.refusals.specs.Numbers.{otherFormNumber, noTableNumber}
 use Rattle.opening.specs.Tables.{noTable}
 use Rattle.text.specs.Rows.{rowsOf}
 use Rattle.commands.specs.Commands.{openVerb, offerVerb, withdrawVerb, beaconVerb, commandOf}
@@ -25,7 +26,7 @@ withTable t = record { ready = true; table = t }
 
 -- 51 for every call but `open` where there is no table
 abbrev pub answerWith : State → ℕ → ℕ
-answerWith s a = cond (s .ready) a 51
+answerWith s a = cond (s .ready) a noTableNumber
 
 -- ---- the state after a row
 -- a later `open` replaces the table if it succeeds
@@ -59,7 +60,7 @@ rowsFor s (Open u) = plainRow openVerb (openAnswer u)
 rowsFor s (Offer q) = streamRow offerVerb (q .stream) (answerWith s (offerAnswer (s .table) q))
 rowsFor s (Withdraw n) = streamRow withdrawVerb n (answerWith s (heldAnswer (s .table) n))
 rowsFor s Beacon = plainRow beaconVerb (answerWith s 0) ++ planRows s
-rowsFor s OtherForm = plainRow rowVerb 50
+rowsFor s OtherForm = plainRow rowVerb otherFormNumber
 
 -- ---- the whole output
 unfoldable pub printed : State → List Command → List ℕ

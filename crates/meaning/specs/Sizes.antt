@@ -8,6 +8,7 @@ use native.Mathlib.Omega.{arith}
 use lib.ListN.{length, length-append}
 use Rattle.lists.specs.Tests.{either}
 use Rattle.rules.specs.Calls.{openAnswer, offerAnswer, heldAnswer, wordsOf, planOf}
+use Rattle.refusals.specs.Numbers.{otherFormNumber}
 use Rattle.interval.specs.Plan.{plan-right}
 use Rattle.commands.specs.Commands.{openVerb, offerVerb, withdrawVerb, beaconVerb}
 use Rattle.commands.specs.declared.Command.{Command}
@@ -41,4 +42,4 @@ rows-most s Beacon r =
     let h = plain-row-most beaconVerb (answerWith s 0) in
     let k = plan-most s r in
     simp length-append (omega arith)
-rows-most s OtherForm r = let h = plain-row-most rowVerb 50 in omega arith
+rows-most s OtherForm r = let h = plain-row-most rowVerb otherFormNumber in omega arith

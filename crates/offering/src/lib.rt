@@ -19,7 +19,7 @@ pub fn answer_offer(ready: bool, t: Table, q: Request, out: &mut [u8], at: usize
         × ((r .at ≡ at + length bs) × (now (out .exit) ≡ written (now (out .entry)) at bs)) ⌝ }
 {
     if !ready {
-        let next = printing::stream_row(out, at, b"offer", q.stream, 51);
+        let next = printing::stream_row(out, at, b"offer", q.stream, refusals::NO_TABLE);
         return answers::nothing_put(next);
     }
     let d = admission::decide(t, q);

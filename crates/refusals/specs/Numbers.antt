@@ -18,3 +18,10 @@ heldNumber NotHeld = 20
 abbrev pub beaconNumber : BeaconAnswer → ℕ
 beaconNumber Planned = 0
 beaconNumber PlanTooShort = 30
+
+-- the program's own: a row of another form, and a call where there is no table
+abbrev pub otherFormNumber : ℕ
+otherFormNumber = 50
+
+abbrev pub noTableNumber : ℕ
+noTableNumber = 51

@@ -51,15 +51,15 @@ fn answer_of(plan: &[u32], count: usize, from: u32, until: u32) -> u32
     ensures { λ r. ⌜ r ≡ windowAnswer (now (plan .entry)) count from until ⌝ }
 {
     if plan.len() / 4 < count {
-        return 40;
+        return refusals::TOO_MANY_RECORDS;
     }
     if until < from {
-        return 41;
+        return refusals::FROM_AFTER_UNTIL;
     }
     if starts_rise(plan, count) {
-        return 0;
+        return refusals::DONE;
     }
-    42
+    refusals::STARTS_NOT_RISING
 }
 
 // The answer, and where the part begins and ends, counted in records: nothing where it is refused.

@@ -18,7 +18,7 @@ pub fn answer_withdraw(ready: bool, t: Table, stream: u32, out: &mut [u8], at: u
         × ((r .at ≡ at + length bs) × (now (out .exit) ≡ written (now (out .entry)) at bs)) ⌝ }
 {
     if !ready {
-        let next = printing::stream_row(out, at, b"withdraw", stream, 51);
+        let next = printing::stream_row(out, at, b"withdraw", stream, refusals::NO_TABLE);
         return answers::nothing_put(next);
     }
     let r = held::release(t, stream);
