@@ -6,16 +6,16 @@ ghost use Rattle.writing.specs.Bytes.{written};
 ghost use Rattle.printing.specs.Printed.{slotRowMost, slotRow, slotRows};
 
 // A record.
-fn slot_row(out: &mut [u8], at: usize, stream: u32, job: u32, start: u32, length: u32) -> usize
-    requires { ⌜ at + slotRowMost ≤ lib.ListN.length (now out) ⌝ }
-    ensures { λ r. ⌜ (r ≡ at + lib.ListN.length (slotRow stream job start length))
-        × (now (out .exit) ≡ written (now (out .entry)) at (slotRow stream job start length)) ⌝ }
+fn slot_row(out: &mut [u8], at: usize, stream: u32, job: u32, start: u32, slots: u32) -> usize
+    requires { ⌜ at + slotRowMost ≤ length (now out) ⌝ }
+    ensures { λ r. ⌜ (r ≡ at + length (slotRow stream job start slots))
+        × (now (out .exit) ≡ written (now (out .entry)) at (slotRow stream job start slots)) ⌝ }
 {
     let second = writing::put_bytes(out, at, b"slot");
     let third = writing::put_field(out, second, stream);
     let fourth = writing::put_field(out, third, job);
     let fifth = writing::put_field(out, fourth, start);
-    let last = writing::put_field(out, fifth, length);
+    let last = writing::put_field(out, fifth, slots);
     writing::put_bytes(out, last, b",\r\n")
 }
 

@@ -109,7 +109,7 @@ pub record Run : Type 0 where
   pub start : ℕ
   pub length : ℕ
 
-abbrev pub run : JobName → (start length : ℕ) → Run
+abbrev pub run : JobName → (start slots : ℕ) → Run
 run k s n = record { stream = k .stream; job = k .number; start = s; length = n }
 
 -- the run r goes on from slot s, which is job k's
