@@ -25,7 +25,7 @@ use Rattle.rules.specs.Calls.{places, heldOf, holds, offerAnswer, placed, offer
 use Rattle.rules.specs.WellFormed.{WellFormed}
 use Rattle.laws.specs.Refusals.{refused-offer}
 use Rattle.laws.specs.Offers.{Numbered, refusal-none, none-refusal, refusal-stops}
-use Rattle.laws.specs.Offers.{fields-numbered, offerChecksBut, checks-passed, isFull, fits}
+use Rattle.laws.specs.Offers.{fields-numbered, offerChecksBut, checks-passed, isFull, hasTime}
 use Rattle.laws.specs.Offers.{offer-refused, offer-passed}
 use Rattle.laws.specs.Places.{Tidy, formed-tidy}
 use Rattle.ahead.specs.Formed.{passed-together, placed-tidy, placed-ahead}
@@ -102,7 +102,7 @@ module _ (t : Table) (w : WellFormed t) (q : Request) {a : ℕ}
       pub request-tidy : Tidy (withRequest t q)
       request-tidy = placed-tidy t w q none
 
-      ahead : {b : Bool} → b ≡ fitsAhead (t .interval .0) (heldOf (withRequest t q)) → fits t q ≡ b
+      ahead : {b : Bool} → b ≡ fitsAhead (t .interval .0) (heldOf (withRequest t q)) → hasTime t q ≡ b
       ahead e = sym (e ∙ placed-ahead t w q none)
 
       pub fits-answer : {b : Bool} → b ≡ fitsAhead (t .interval .0) (heldOf (withRequest t q)) → b ≡ true

@@ -26,7 +26,7 @@ use Rattle.rules.specs.Calls.{recordWords, mostRecords, refusedBeacon, plannedB
 use Rattle.rules.specs.WellFormed.{Held, WellFormed}
 use Rattle.laws.specs.Grants.{once-cons}
 use Rattle.laws.specs.Held.{held-is, entry-held}
-use Rattle.laws.specs.Offers.{offerChecksBut, Passed, checks-passed, isFull, fits, answer-fits, answer-passed}
+use Rattle.laws.specs.Offers.{offerChecksBut, Passed, checks-passed, isFull, hasTime, answer-fits, answer-passed}
 use Rattle.laws.specs.Places.{Tidy, formed-tidy}
 use Rattle.ahead.specs.Moved.{Together, moved, own-extras}
 use Rattle.ahead.specs.Fits.{Fits, fits-on}
@@ -92,7 +92,7 @@ module _ (t : Table) (w : WellFormed t) (q : Request)
         ≡ fitsAhead B (entryOf q ∷ heldOf t)
     placed-ahead = picked-ahead B passed-picked passed-together
 
-    passed-formed : fits t q ≡ true → WellFormed (record { interval = t .interval; entries = placed (entryOf q) (t .entries) })
+    passed-formed : hasTime t q ≡ true → WellFormed (record { interval = t .interval; entries = placed (entryOf q) (t .entries) })
     passed-formed y =
         tidy-formed placed-tidy (picked-fits B passed-picked (ahead-fits B (entryOf q ∷ heldOf t) passed-together y))
 

@@ -139,8 +139,8 @@ pub part-some : (s : Shelf) (chunk : List ℕ) (taken n at : ℕ) {next room : �
     → (n ≤ length (leftOf chunk taken)) × ((next ≤ room) × (next + answerMost ≤ room → n ≡ length (leftOf chunk taken)))
     → (taken + n ≤ length chunk) × (0 < n)
 unfolding chunkRows printed linesIn
-part-some s chunk taken zero at h fits e (most, (inside, all)) =
+part-some s chunk taken zero at h spare e (most, (inside, all)) =
     let l = left-length chunk taken in
     let none = all (omega arith) in
     absurd (omega arith)
-part-some s chunk taken (suc n) at h fits e (most, (inside, all)) = let l = left-length chunk taken in (omega arith, omega arith)
+part-some s chunk taken (suc n) at h spare e (most, (inside, all)) = let l = left-length chunk taken in (omega arith, omega arith)

@@ -36,15 +36,15 @@ requestFrom fs = record {
 }
 
 -- a verb with n numbers after it
-abbrev pub spells : List ℕ → ℕ → (v : List ℕ) (fs : List (List ℕ)) → Bool
-spells verb n v fs = sameList v verb && filled n fs
+abbrev pub hasForm : List ℕ → ℕ → (v : List ℕ) (fs : List (List ℕ)) → Bool
+hasForm verb n v fs = sameList v verb && filled n fs
 
 unfoldable pub called : (v : List ℕ) (fs : List (List ℕ)) → Command
 called v fs =
-    cond (spells openVerb 1 v fs) (Open (numberAt 0 fs))
-    (cond (spells offerVerb 6 v fs) (Offer (requestFrom fs))
-    (cond (spells withdrawVerb 1 v fs) (Withdraw (numberAt 0 fs))
-    (cond (spells beaconVerb 0 v fs) Beacon OtherForm)))
+    cond (hasForm openVerb 1 v fs) (Open (numberAt 0 fs))
+    (cond (hasForm offerVerb 6 v fs) (Offer (requestFrom fs))
+    (cond (hasForm withdrawVerb 1 v fs) (Withdraw (numberAt 0 fs))
+    (cond (hasForm beaconVerb 0 v fs) Beacon OtherForm)))
 
 -- seven fields
 unfoldable pub fromFields : List (List ℕ) → Command

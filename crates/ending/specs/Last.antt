@@ -42,9 +42,9 @@ module _ (s : Shelf) (h : eqb (unheld (s .reader) .len) 0 ≡ false) where
 both-served : (s : Shelf) (n at : ℕ) {next room : ℕ} → n ≤ 2 → at + answerMost ≤ room
     → next ≡ at + length (chunkRows s (take n rowEnd)) → (next + answerMost ≤ room → n ≡ 2) → n ≡ 2
 unfolding chunkRows printed linesIn
-both-served s zero at most fits e all = all (omega arith)
-both-served s (suc zero) at most fits e all = all (omega (arith, rw (no-line (s .reader)) at e))
-both-served s (suc (suc n)) at most fits e all = omega arith
+both-served s zero at most spare e all = all (omega arith)
+both-served s (suc zero) at most spare e all = all (omega (arith, rw (no-line (s .reader)) at e))
+both-served s (suc (suc n)) at most spare e all = omega arith
 
 pub last-served : (s : Shelf) (n at : ℕ) (out plan : List ℕ) {next room : ℕ} {bytes words : List ℕ}
     → eqb (unheld (s .reader) .len) 0 ≡ false → at + answerMost ≤ room
@@ -52,8 +52,8 @@ pub last-served : (s : Shelf) (n at : ℕ) (out plan : List ℕ) {next room : �
     (next ≡ at + length rows) × ((bytes ≡ written out at rows) × (words ≡ chunkPlan s (take n rowEnd) plan)))
     → (n ≤ 2) × ((next ≤ room) × (next + answerMost ≤ room → n ≡ 2))
     → (next ≡ at + length (lastRows s)) × ((bytes ≡ written out at (lastRows s)) × (words ≡ lastPlan s plan))
-last-served s n at out plan h fits (e, (b, w)) (most, (inside, all)) =
-    let k = both-served s n at most fits e all in
+last-served s n at out plan h spare (e, (b, w)) (most, (inside, all)) =
+    let k = both-served s n at most spare e all in
     let rows = ap (λ m. chunkRows s (take m rowEnd)) k ∙ rows-last s h in (
       e ∙ ap (λ l. at + length l) rows,
       (b ∙ ap (written out at) rows, w ∙ ap (λ m. chunkPlan s (take m rowEnd) plan) k ∙ plan-last s h plan),

@@ -11,7 +11,7 @@ use Rattle.model.specs.declared.Request.{Request}
 use Rattle.model.specs.declared.Table.{Table}
 use Rattle.rules.specs.Calls.{heldOf, holds, offerAnswer}
 use Rattle.rules.specs.WellFormed.{WellFormed}
-use Rattle.laws.specs.Offers.{offerChecksBut, isFull, fits, answer-fits, answer-not}
+use Rattle.laws.specs.Offers.{offerChecksBut, isFull, hasTime, answer-fits, answer-not}
 use Rattle.ahead.specs.Tables.{formed-some}
 use Rattle.ahead.specs.Formed.{passed-together}
 use Rattle.exact.specs.Assignment.{Assignment, ServesEntry}
@@ -34,4 +34,4 @@ module _ (t : Table) (w : WellFormed t) (q : Request)
 
     pub offer-hopeless : offerAnswer t q ≡ 17 → (a : Assignment) → ServesOffer a → ⊥
     offer-hopeless z a s =
-        clash (fits t q) (serves-ahead B a (entryOf q ∷ heldOf t) (passed-together t w q h) s) (answer-not t q h z)
+        clash (hasTime t q) (serves-ahead B a (entryOf q ∷ heldOf t) (passed-together t w q h) s) (answer-not t q h z)

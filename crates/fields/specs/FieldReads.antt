@@ -5,7 +5,7 @@ use mathlib.Core.List.{List, map}
 use lib.Dec.{eqb}
 use lib.ListN.{length, replicate}
 use Rattle.text.specs.Fields.{valueOf, filled}
-use Rattle.text.specs.FieldLaws.{fits}
+use Rattle.text.specs.FieldLaws.{asNeeded}
 use Rattle.fields.specs.declared.Number.{Number}
 use Rattle.fields.specs.declared.Numbers.{Numbers}
 
@@ -17,7 +17,7 @@ noNumbers = record { good = false; values = replicate 6 0 }
 
 -- a field that is needed is a number, another is empty
 unfoldable pub fieldRead : Bool → List ℕ → Number
-fieldRead needed f = cond (fits needed f) (record { good = true; value = valueOf f }) noNumber
+fieldRead needed f = cond (asNeeded needed f) (record { good = true; value = valueOf f }) noNumber
 
 -- six fields, the first n of them numbers
 unfoldable pub fieldsRead : ℕ → List (List ℕ) → Numbers

@@ -11,7 +11,7 @@ use native.Mathlib.Omega.{arith}
 use borrow.Author.Tests.{ne-eqb, lt-leb}
 use Rattle.lists.specs.Tests.{and-false, both-within}
 use Rattle.text.specs.Fields.{spelt, valueOf, isEmpty}
-use Rattle.text.specs.FieldLaws.{spells, is-number, fits, fitFrom, fit-all}
+use Rattle.text.specs.FieldLaws.{spells, is-number, asNeeded, fitFrom, fit-all}
 use Rattle.fields.specs.FieldReads.{noNumber, noNumbers, fieldRead, fieldsRead}
 use Rattle.fields.specs.declared.Number.{Number}
 
@@ -19,7 +19,7 @@ abbrev pub numbered : ℕ → Number
 numbered v = record { good = true; value = v }
 
 module _ (f : List ℕ) where
-  none : {t : Bool} → fits true f ≡ t → t ≡ false → noNumber ≡ fieldRead true f
+  none : {t : Bool} → asNeeded true f ≡ t → t ≡ false → noNumber ≡ fieldRead true f
   unfolding fieldRead
   none e h = rw (e, h)
 
@@ -44,9 +44,9 @@ empty-read (b ∷ bs) = rw (ne-eqb (suc (length bs)) 0 (λ e. omega arith))
 
 -- ---- what a field's answer says
 module _ (needed : Bool) (f : List ℕ) {r : Number} (e : r ≡ fieldRead needed f) where
-  pub good-fits : r .good ≡ fits needed f
+  pub good-needed : r .good ≡ asNeeded needed f
   unfolding fieldRead
-  good-fits = ap (λ a. a .good) e ∙ told (fits needed f)
+  good-needed = ap (λ a. a .good) e ∙ told (asNeeded needed f)
     where
       told : (t : Bool) → cond t (numbered (valueOf f)) noNumber .good ≡ t
       told true = refl
@@ -54,7 +54,7 @@ module _ (needed : Bool) (f : List ℕ) {r : Number} (e : r ≡ fieldRead needed
 
   pub good-value : r .good ≡ true → r .value ≡ valueOf f
   unfolding fieldRead
-  good-value h = ap (λ a. a .value) e ∙ rw (sym good-fits ∙ h)
+  good-value h = ap (λ a. a .value) e ∙ rw (sym good-needed ∙ h)
 
 -- ---- the six fields
 module _ (n : ℕ) (fs : List (List ℕ)) where

@@ -25,7 +25,7 @@ use Rattle.laws.specs.Settled.{PieceFate, over, anew, on, piece-fate, headroom-
 use Rattle.guarantee.specs.Ledger.{Admission, grown, lasts}
 use Rattle.guarantee.specs.Demand.{slotsOf, had, Kept}
 use Rattle.guarantee.specs.Had.{grown-length, grown-last, grown-other, had-old, had-new, had-none}
-use Rattle.guarantee.specs.Link.{Runs, Linked, holds, run-begun, run-open, run-only, run-transfer}
+use Rattle.guarantee.specs.Link.{Runs, Linked, same-fields, run-begun, run-open, run-only, run-transfer}
 
 -- what the plan rs of an interval gives an entry, in which it has b slots of step B and c slots of step C: a fraction stream has its
 -- minimum and c in each part of the interval, a piece has b and c in all, and a piece whose deadline it is has all that it is owed
@@ -49,7 +49,7 @@ module _ (b c : ℕ) {B : ℕ} {h : Admission} {e : Entry} (l : Linked B h e) wh
 
   stays : Held B e → 2 ≤ e .«life_left» .0 → isHeld (after b c e) ≡ true
   stays d w =
-      ap (λ s. not (eqb s 0)) (holds (after b c e) (keeps-request w) .stream ∙ sym (holds e (l .request) .stream)) ∙ held-is d
+      ap (λ s. not (eqb s 0)) (same-fields (after b c e) (keeps-request w) .stream ∙ sym (same-fields e (l .request) .stream)) ∙ held-is d
 
   pub grown-lasts : (rs : List Run) → Held B e → lasts (grown rs h) ≡ isHeld (after b c e)
   grown-lasts rs d =
@@ -73,7 +73,7 @@ module _ {B b c : ℕ} {rs : List Run} {h : Admission} {e : Entry} (p : Piece B 
         had-new B h rs (r .nth * e .period .0) (suc (r .nth) * e .period .0) (run-begun p r) (run-open p r),
         r .given,
         g .piece other,
-        ap (λ s. slotsOf s 0 B rs) (holds e (l .request) .stream),
+        ap (λ s. slotsOf s 0 B rs) (same-fields e (l .request) .stream),
       )
 
   -- that is at most its maximum, at its end at least its minimum, and of a transfer its minimum
@@ -97,7 +97,7 @@ module _ {B b c : ℕ} {rs : List Run} {h : Admission} {e : Entry} (p : Piece B 
       (e .min .0 ≤ n) × (n ≤ e .max .0)
   kept-whole kp k i w =
       let r = l .runs other in
-      let s = holds e (l .request) in
+      let s = same-fields e (l .request) in
       elim (decLe (suc i * e .period .0) (length (h .plans))) [
         | yes q ↦
             rw (had-old B h rs (i * e .period .0) (suc i * e .period .0) q, s .period other, s .least, s .most)
@@ -117,7 +117,7 @@ module _ {B b c : ℕ} {rs : List Run} {h : Admission} {e : Entry} (p : Piece B 
 
   piece-kept : Held B e → Kept B h → Kept B (grown rs h)
   piece-kept d kp =
-      let s = holds e (l .request) in
+      let s = same-fields e (l .request) in
       let one = grown-length rs h in
       record {
         fractions = λ k. absurd (other (s .kind ∙ k));
@@ -151,13 +151,13 @@ module _ {B b c : ℕ} {rs : List Run} {h : Admission} {e : Entry} (f : Fraction
   fraction-new : (j : ℕ) → j < h .request .period
       → slotsOf (h .request .stream) (j * (B / h .request .period)) (suc j * (B / h .request .period)) rs ≡ h .request .min + c
   fraction-new =
-      let s = holds e (l .request) in
+      let s = same-fields e (l .request) in
       rw (← s .stream, ← s .parts (f .kind), ← s .least) (g .fraction (f .kind))
 
   -- c is at most the maximum less the minimum
   fraction-kept : Kept B h → Kept B (grown rs h)
   fraction-kept kp =
-      let s = holds e (l .request) in
+      let s = same-fields e (l .request) in
       record {
         fractions = λ z k j q w. elim (ℕ-discrete k (length (h .plans))) [
           | yes x ↦ rw (x, grown-last rs h) (omega (arith, fraction-new j w, g .granted .extra, headroom-fraction e b (f .kind)))
@@ -180,7 +180,7 @@ module _ {B b c : ℕ} {rs : List Run} {h : Admission} {e : Entry} (d : Held B e
         request = q;
         life = omega (arith, after-life b c e, l .life, grown-length rs h, two);
         runs = λ n. elim (held-kinds d) [
-          | inl f ↦ absurd (n (holds (after b c e) q .kind ∙ sym (holds e (l .request) .kind) ∙ f .kind))
+          | inl f ↦ absurd (n (same-fields (after b c e) q .kind ∙ sym (same-fields e (l .request) .kind) ∙ f .kind))
           | inr p ↦ piece-runs p l g w (piece-fate b c p)
         ];
       }

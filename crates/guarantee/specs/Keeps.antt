@@ -32,7 +32,7 @@ use Rattle.ahead.specs.Formed.{passed-picked, offered-formed, withdrawn-formed,
 use Rattle.guarantee.specs.History.{Call, Offer, Withdraw, Beacon, Offered, Withdrew, Planned, recordsOf, seen, after}
 use Rattle.guarantee.specs.Ledger.{Admission, Ledger, grown, lasts, isOf, note}
 use Rattle.guarantee.specs.Demand.{Kept}
-use Rattle.guarantee.specs.Link.{Linked, holds as fields, begins-linked, period-some, begins-kept}
+use Rattle.guarantee.specs.Link.{Linked, same-fields, begins-linked, period-some, begins-kept}
 use Rattle.guarantee.specs.Grown.{Gets, grown-lasts, grown-kept, grown-linked}
 use Rattle.guarantee.specs.Planned.{records-back, plan-gets}
 
@@ -92,10 +92,10 @@ module _ (l : Ledger) (t : Table) (v : Stands l t) where
         one : (h : Admission) (e : Entry) → Linked B h e → Held B e → (b : Bool) → isOf s h ≡ b
             → (not (isOf s h) ≡ isHeld (freed e)) × (isHeld (freed e) ≡ true → Linked B h (freed e))
         one h e r d true z =
-            let y : freed e ≡ freeEntry = ap (λ b. cond b freeEntry e) (ap (λ n. eqb n s) (fields e (r .request) .stream) ∙ z) in
+            let y : freed e ≡ freeEntry = ap (λ b. cond b freeEntry e) (ap (λ n. eqb n s) (same-fields e (r .request) .stream) ∙ z) in
             (ap not z ∙ sym (ap isHeld y), λ q. absurd (clash (isHeld (freed e)) q (ap isHeld y)))
         one h e r d false z =
-            let y : freed e ≡ e = ap (λ b. cond b freeEntry e) (ap (λ n. eqb n s) (fields e (r .request) .stream) ∙ z) in
+            let y : freed e ≡ e = ap (λ b. cond b freeEntry e) (ap (λ n. eqb n s) (same-fields e (r .request) .stream) ∙ z) in
             (ap not z ∙ sym (ap isHeld y ∙ held-is d), λ q. rw y r)
 
     pub withdraw-stands : Stands (note l (Withdrew s (heldAnswer t s))) (withdrawn t s)

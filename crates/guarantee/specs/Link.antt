@@ -32,7 +32,7 @@ pub record Linked (B : ℕ) (h : Admission) (e : Entry) : Type 0 where
   pub runs : e .kind ≢ 1 → Runs B h e
 
 -- ---- the fields of an entry that holds a request; the period field is its parts or its period, by kind
-pub record Holds (e : Entry) (q : Request) : Type 0 where
+pub record SameFields (e : Entry) (q : Request) : Type 0 where
   pub stream : e .stream ≡ q .stream
   pub kind : e .kind ≡ q .kind
   pub parts : e .kind ≡ 1 → e .parts ≡ q .period
@@ -41,9 +41,9 @@ pub record Holds (e : Entry) (q : Request) : Type 0 where
   pub most : e .max .0 ≡ q .max
   pub life : e .life .0 ≡ q .life
 
-pub holds : (e : Entry) {q : Request} → requestOf e ≡ q → Holds e q
+pub same-fields : (e : Entry) {q : Request} → requestOf e ≡ q → SameFields e q
 unfolding requestOf
-holds e r =
+same-fields e r =
     record {
       stream = ap (λ (x : Request). x .stream) r;
       kind = ap (λ (x : Request). x .kind) r;
@@ -76,7 +76,7 @@ module _ {B : ℕ} {h : Admission} {e : Entry} (p : Piece B e) (r : Runs B h e) 
   pub run-transfer : Linked B h e → e .kind ≡ 3 → r .nth ≡ 0
   run-transfer l k =
       let none = ap (λ v. v * e .period .0) (p .once k) in
-      sym (run-only 0 (omega arith) (omega (arith, p .life-once k, holds e (l .request) .life)))
+      sym (run-only 0 (omega arith) (omega (arith, p .life-once k, same-fields e (l .request) .life)))
 
 -- ---- when a request is accepted
 pub begins-linked : (B : ℕ) (q : Request) → Linked B (begins q) (entryOf q)

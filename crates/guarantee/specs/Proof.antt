@@ -18,14 +18,14 @@ use Rattle.model.specs.declared.Table.{Table}
 use Rattle.exact.specs.Assignment.{Assignment}
 use Rattle.rules.specs.Calls.{places, recordWords, mostRecords, opened, heldOf, holds, offerAnswer, placed, offered, heldAnswer, withdrawn}
 use Rattle.rules.specs.Calls.{planOf, advanced, refusedBeacon, plannedBeacon, beacon}
-use Rattle.laws.specs.Offers.{offerChecksBut, isFull, fits, offer-refused, offer-passed, answer-passed}
+use Rattle.laws.specs.Offers.{offerChecksBut, isFull, hasTime, offer-refused, offer-passed, answer-passed}
 use Rattle.ahead.specs.Tables.{formed-together}
 use Rattle.ahead.specs.Formed.{opened-formed, passed-held}
 use Rattle.exact.specs.Offer.{offer-served, offer-hopeless}
 use Rattle.guarantee.specs.History.{Call, Offer, Withdraw, Beacon, recordsOf, seen, after, history, answerSeen, planSeen, lastSeen}
 use Rattle.guarantee.specs.Ledger.{Ledger, begins, isOf, note, noteAll, noAdmission}
 use Rattle.guarantee.specs.Demand.{timesGiven, Kept, Serves, offerChecks, Right, ledgerAfter, answerTo, ServesAll, Claim}
-use Rattle.guarantee.specs.Link.{holds as fields, begins-linked}
+use Rattle.guarantee.specs.Link.{same-fields, begins-linked}
 use Rattle.guarantee.specs.Serving.{serves-entry, entry-serves}
 use Rattle.guarantee.specs.Planned.{records-back, plan-once}
 use Rattle.guarantee.specs.Keeps.{Stands, call-stands}
@@ -99,7 +99,7 @@ module _ (l : Ledger) (t : Table) (v : Stands l t) where
 
   -- the admissions hold a stream where the table does, and as many
   held-same : (s : ℕ) → anyOf (isOf s) (l .held) ≡ holds t s
-  held-same s = paired-any (isOf s) (isStream s) (λ h e r. ap (λ n. eqb n s) (sym (fields e (r .request) .stream))) (v .paired)
+  held-same s = paired-any (isOf s) (isStream s) (λ h e r. ap (λ n. eqb n s) (sym (same-fields e (r .request) .stream))) (v .paired)
 
   checks-same : (q : Request) → offerChecks B l q ≡ offerChecksBut (holds t (q .stream)) (isFull t q) B q
   unfolding offerChecks
@@ -107,7 +107,7 @@ module _ (l : Ledger) (t : Table) (v : Stands l t) where
 
   zero-or : (q : Request) → refusal (offerChecksBut (holds t (q .stream)) (isFull t q) B q) ≡ 0
       → (offerAnswer t q ≡ 0) ⊎ (offerAnswer t q ≡ 17)
-  zero-or q h = go (fits t q) (offer-passed t q h)
+  zero-or q h = go (hasTime t q) (offer-passed t q h)
     where
       go : (b : Bool) → offerAnswer t q ≡ cond (not b) 17 0 → (offerAnswer t q ≡ 0) ⊎ (offerAnswer t q ≡ 17)
       go true z = inl z

@@ -16,7 +16,7 @@ use Rattle.laws.specs.Held.{Piece, other-piece}
 use Rattle.guarantee.specs.Ledger.{Admission}
 use Rattle.guarantee.specs.Demand.{had, Serves}
 use Rattle.guarantee.specs.Had.{had-none}
-use Rattle.guarantee.specs.Link.{Runs, Linked, Holds, holds, run-begun, run-open, run-only}
+use Rattle.guarantee.specs.Link.{Runs, Linked, SameFields, same-fields, run-begun, run-open, run-only}
 
 -- ---- the periods of a piece, where coming interval k gives it to k slots
 module _ {B : ℕ} {h : Admission} {e : Entry} (p : Piece B e) (r : Runs B h e) (to : ℕ → ℕ) where
@@ -91,8 +91,8 @@ module _ {B : ℕ} {a : Assignment} {h : Admission} {e : Entry} (d : Held B e) (
         later = λ n. all-later (other-piece d n) (l .runs n) (toEntry B a e) (all n);
       }
     where
-      s : Holds e (h .request)
-      s = holds e (l .request)
+      s : SameFields e (h .request)
+      s = same-fields e (l .request)
 
       all : (n : e .kind ≢ 1) → AllServed (other-piece d n) (l .runs n) (toEntry B a e)
       all n i w q =
@@ -101,7 +101,7 @@ module _ {B : ℕ} {a : Assignment} {h : Admission} {e : Entry} (d : Held B e) (
 
   pub entry-serves : ServesEntry B a e → Serves B a h
   entry-serves v =
-      let s = holds e (l .request) in
+      let s = same-fields e (l .request) in
       record {
         fractions = λ k i j w q.
             let z = s .kind ∙ k in

@@ -124,38 +124,38 @@ module _ (t : Table) (q : Request) where
   abbrev pub isFull : Bool
   isFull = leb places (length (heldOf t))
 
-  abbrev pub fits : Bool
-  fits = fitsAhead B (entryOf q ∷ heldOf t)
+  abbrev pub hasTime : Bool
+  hasTime = fitsAhead B (entryOf q ∷ heldOf t)
 
   -- all checks: those but the last, and the last
-  answer-checks : offerAnswer t q ≡ refusal (offerChecksBut (holds t (q .stream)) isFull B q ++ (check 17 (not fits) ∷ []))
+  answer-checks : offerAnswer t q ≡ refusal (offerChecksBut (holds t (q .stream)) isFull B q ++ (check 17 (not hasTime) ∷ []))
   unfolding offerAnswer
   answer-checks =
       ap (λ cs. refusal (check 10 (not (streamInRange (q .stream))) ∷ check 11 (holds t (q .stream)) ∷ cs))
-      (sym (append-assoc (fieldChecks B q) (check 16 isFull ∷ []) (check 17 (not fits) ∷ [])))
+      (sym (append-assoc (fieldChecks B q) (check 16 isFull ∷ []) (check 17 (not hasTime) ∷ [])))
 
   pub offer-refused : refusal (offerChecksBut (holds t (q .stream)) isFull B q) ≢ 0
       → offerAnswer t q ≡ refusal (offerChecksBut (holds t (q .stream)) isFull B q)
-  offer-refused h = answer-checks ∙ refusal-stops (offerChecksBut (holds t (q .stream)) isFull B q) (check 17 (not fits) ∷ []) h
+  offer-refused h = answer-checks ∙ refusal-stops (offerChecksBut (holds t (q .stream)) isFull B q) (check 17 (not hasTime) ∷ []) h
 
-  pub offer-passed : refusal (offerChecksBut (holds t (q .stream)) isFull B q) ≡ 0 → offerAnswer t q ≡ cond (not fits) 17 0
+  pub offer-passed : refusal (offerChecksBut (holds t (q .stream)) isFull B q) ≡ 0 → offerAnswer t q ≡ cond (not hasTime) 17 0
   unfolding refusal
   offer-passed h =
       answer-checks
       ∙ none-refusal
       (refusal-none (offerChecksBut (holds t (q .stream)) isFull B q) (checks-numbered (holds t (q .stream)) isFull B q) h)
-      (check 17 (not fits) ∷ [])
+      (check 17 (not hasTime) ∷ [])
 
   -- 0 where looking ahead says yes, and 17 where it says no
-  pub answer-fits : refusal (offerChecksBut (holds t (q .stream)) isFull B q) ≡ 0 → offerAnswer t q ≡ 0 → fits ≡ true
-  answer-fits h a = go fits (sym (offer-passed h) ∙ a)
+  pub answer-fits : refusal (offerChecksBut (holds t (q .stream)) isFull B q) ≡ 0 → offerAnswer t q ≡ 0 → hasTime ≡ true
+  answer-fits h a = go hasTime (sym (offer-passed h) ∙ a)
     where
       go : (b : Bool) → _≡_ {A = ℕ} (cond (not b) 17 0) 0 → b ≡ true
       go true z = refl
       go false z = absurd (omega arith)
 
-  pub answer-not : refusal (offerChecksBut (holds t (q .stream)) isFull B q) ≡ 0 → offerAnswer t q ≡ 17 → fits ≡ false
-  answer-not h a = go fits (sym (offer-passed h) ∙ a)
+  pub answer-not : refusal (offerChecksBut (holds t (q .stream)) isFull B q) ≡ 0 → offerAnswer t q ≡ 17 → hasTime ≡ false
+  answer-not h a = go hasTime (sym (offer-passed h) ∙ a)
     where
       go : (b : Bool) → _≡_ {A = ℕ} (cond (not b) 17 0) 17 → b ≡ false
       go true z = absurd (omega arith)

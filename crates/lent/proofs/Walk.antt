@@ -50,9 +50,9 @@ is-false false h = refl
 module _ {M : Type 1} {𝓤 : URA M} {H : Heap 𝓤} {A : Atoms 𝓤} {W : Given 𝓤 H A} {Γ : List (Item 𝓤)} {C : Calls 𝓤 H} {Λ : Loops 𝓤 H}
     {E : Env 𝓤 H} {Q : Post 𝓤 H} {d : Place} {rest : Code} where
   -- what a call gives, r at the machine value w, where v spells out its machine value
-  pub spells : Go {0} → (R : RattleType) (v : R .Denot → Val) → Tells R (Is R) (λ r. v r ∷ []) → (r : R .Denot) (w : Val) → Is R r (w ∷ [])
+  pub tells-value : Go {0} → (R : RattleType) (v : R .Denot → Val) → Tells R (Is R) (λ r. v r ∷ []) → (r : R .Denot) (w : Val) → Is R r (w ∷ [])
       → (Is R r (v r ∷ []) → Seq (Go {0}) W Γ (lands C Λ E d (v r) rest Q)) → Seq (Go {0}) W Γ (lands C Λ E d w rest Q)
-  spells t R v tells r w is k =
+  tells-value t R v tells r w is k =
       regoal ! (λ z. lands C Λ E d z rest Q) (ap only (tells r (w ∷ []) is)) refl $ k (subst (Is R r) (tells r (w ∷ []) is) is)
 
 module _ {M : Type 1} {𝓤 : URA M} {H : Heap 𝓤} {A : Atoms 𝓤} {W : Given 𝓤 H A} {Γ : List (Item 𝓤)} {C : Calls 𝓤 H} {Λ : Loops 𝓤 H}
@@ -67,7 +67,7 @@ module _ {M : Type 1} {𝓤 : URA M} {H : Heap 𝓤} {A : Atoms 𝓤} {W : Given
   calls-value t fm R v tells φ c known x asked given os k =
       use0 W (raw (c .pre x)) asked $ calls-at ! fm c known x os (λ w.
       use1 W (Gives 𝓤 R φ w) (given w) $ await ! tt $ pick ! (λ r. split ! $
-      facts ! R (Is R) (shows 𝓤 H A R) r (w ∷ []) (λ is. heard ! (φ r) (λ e. spells ! R v tells r w is (k r e)))))
+      facts ! R (Is R) (shows 𝓤 H A R) r (w ∷ []) (λ is. heard ! (φ r) (λ e. tells-value ! R v tells r w is (k r e)))))
 
 module _ {M : Type 1} {𝓤 : URA M} {H : Heap 𝓤} {A : Atoms 𝓤} {W : Given 𝓤 H A} {Γ : List (Item 𝓤)} {C : Calls 𝓤 H} {Λ : Loops 𝓤 H}
     {E : Env 𝓤 H} {Q : Post 𝓤 H} {x : Operand} {then rest : Code} where

@@ -61,7 +61,7 @@ pub record Looking (v : Bool) (slots used now taken : ℕ) (R O D L A P : List �
   pub shows : Shows now used table R O D L A P
   pub soon : now ≤ 65535
   pub load : taken ≡ load (heldOf table)
-  pub fits : taken ≤ slots
+  pub enough : taken ≤ slots
 
 -- it follows from where it began
 abbrev pub Follows : (slots used : ℕ) (R O D L A P : List ℕ) (now taken : ℕ) (R′ O′ D′ A′ : List ℕ) → Type 0
@@ -95,7 +95,7 @@ module _ {t : Table} {slots used taken : ℕ} {R O D L A P : List ℕ} (b : Begi
         shows = b .shows;
         soon = zero-le;
         load = loaded;
-        fits = h;
+        enough = h;
       }
 
 -- ---- a turn
@@ -184,7 +184,7 @@ module _ {v : Bool} {slots used now taken at : ℕ} {R O D L A P : List ℕ} (k 
     held = some-left (k .shows) (k .tidy) (λ z. g (f ∙ z))
 
     room : overfull (t .interval .0) (heldOf t) ≡ false
-    room = le-ltb (t .interval .0) (load (heldOf t)) (omega (arith, k .load, k .interval, k .fits))
+    room = le-ltb (t .interval .0) (load (heldOf t)) (omega (arith, k .load, k .interval, k .enough))
 
     module _ {c due : ℕ} (p : c ≡ n * (slots - taken)) (q : due ≡ dueOf at D O) where
       slots-then : c ≡ n * E t
@@ -208,14 +208,14 @@ module _ {v : Bool} {slots used now taken at : ℕ} {R O D L A P : List ℕ} (k 
             shows = shows;
             soon = at-soon .1;
             load = loaded-then;
-            fits = omega (
+            enough = omega (
               arith,
               loaded-then,
               load-places (ended n t) tidy,
               ended-load n t,
               load-places t (k .tidy),
               k .load,
-              k .fits,
+              k .enough,
             );
           }
         where

@@ -38,8 +38,8 @@ unfoldable pub grows : Pen → JobName → ℕ → Bool
 grows p k t = follows (owner p) (p .start + p .length) (run k t 0)
 
 -- c records are there, rs come after them
-unfoldable pub written : ℕ → List Run → List ℕ → List ℕ
-written c rs old = take (4 * c) old ++ wordsOf rs ++ drop (4 * (c + length rs)) old
+unfoldable pub recorded : ℕ → List Run → List ℕ → List ℕ
+recorded c rs old = take (4 * c) old ++ wordsOf rs ++ drop (4 * (c + length rs)) old
 
 -- the run that ends where slot t is k's, as a list of at most one
 unfoldable pub closed : Pen → JobName → ℕ → List Run
@@ -67,11 +67,11 @@ words-append [] ys = refl
 words-append (x ∷ xs) ys = rw (words-append xs ys)
 
 -- four words in a row are one record
-pub record-written : (l : List ℕ) (n : ℕ) (r : Run) → 4 * n + 4 ≤ length l
+pub one-recorded : (l : List ℕ) (n : ℕ) (r : Run) → 4 * n + 4 ≤ length l
     → set (set (set (set l (4 * n) (r .stream)) (4 * n + 1) (r .job)) (4 * n + 2) (r .start)) (4 * n + 3) (r .length)
-    ≡ written n (r ∷ []) l
-unfolding written wordsOf
-record-written l n r h =
+    ≡ recorded n (r ∷ []) l
+unfolding recorded wordsOf
+one-recorded l n r h =
     let e₁ : 4 * n + 1 ≡ suc (4 * n) = omega arith in
     let e₂ : 4 * n + 2 ≡ suc (suc (4 * n)) = omega arith in
     let e₃ : 4 * n + 3 ≡ suc (suc (suc (4 * n))) = omega arith in
@@ -79,10 +79,10 @@ record-written l n r h =
     rw (e₁, e₂, e₃, e₄) (sets-eq (r .stream ∷ r .job ∷ r .start ∷ r .length ∷ []) l (4 * n) h)
 
 -- records written after others
-pub written-after : (old : List ℕ) (done rs : List Run) (c : ℕ) → length done ≡ c
-    → written c rs (wordsOf done ++ drop (4 * c) old) ≡ wordsOf (done ++ rs) ++ drop (4 * (c + length rs)) old
-unfolding written
-written-after old done rs c h =
+pub recorded-after : (old : List ℕ) (done rs : List Run) (c : ℕ) → length done ≡ c
+    → recorded c rs (wordsOf done ++ drop (4 * c) old) ≡ wordsOf (done ++ rs) ++ drop (4 * (c + length rs)) old
+unfolding recorded
+recorded-after old done rs c h =
     let e : length (wordsOf done) ≡ 4 * c = omega (arith, length-words done) in
     let f : 4 * (c + length rs) ≡ length (wordsOf done) + 4 * length rs = omega arith in
     let g : 4 * c + 4 * length rs ≡ 4 * (c + length rs) = omega arith in
@@ -94,27 +94,27 @@ written-after old done rs c h =
     rw (take-at (wordsOf done) (drop (4 * c) old) (4 * c) e, d, words-append done rs)
 
 -- ---- what a pen writes, by cases
-written-none : (c : ℕ) (old : List ℕ) → written c [] old ≡ old
-unfolding written wordsOf
-written-none c old = rw (add-zero c, append-nil (take (4 * c) old)) (take-append-drop (4 * c) old)
+recorded-none : (c : ℕ) (old : List ℕ) → recorded c [] old ≡ old
+unfolding recorded wordsOf
+recorded-none c old = rw (add-zero c, append-nil (take (4 * c) old)) (take-append-drop (4 * c) old)
 
 module _ (p : Pen) where
-  pub put-one : (old ws : List ℕ) → (p .length ≡ 0 → ⊥) → ws ≡ written (p .count) (run (owner p) (p .start) (p .length) ∷ []) old
-      → (p .count + 1 ≡ p .count + length (openRun p)) × (ws ≡ written (p .count) (openRun p) old)
+  pub put-one : (old ws : List ℕ) → (p .length ≡ 0 → ⊥) → ws ≡ recorded (p .count) (run (owner p) (p .start) (p .length) ∷ []) old
+      → (p .count + 1 ≡ p .count + length (openRun p)) × (ws ≡ recorded (p .count) (openRun p) old)
   unfolding openRun
   put-one old ws n e = rw (ne-eqb (p .length) 0 n) (refl, e)
 
-  pub put-none : (old : List ℕ) → p .length ≡ 0 → (p .count ≡ p .count + length (openRun p)) × (old ≡ written (p .count) (openRun p) old)
+  pub put-none : (old : List ℕ) → p .length ≡ 0 → (p .count ≡ p .count + length (openRun p)) × (old ≡ recorded (p .count) (openRun p) old)
   unfolding openRun
-  put-none old e = rw (eq-eqb (p .length) 0 e) (omega arith, sym (written-none (p .count) old))
+  put-none old e = rw (eq-eqb (p .length) 0 e) (omega arith, sym (recorded-none (p .count) old))
 
   pub on-grown : (k : JobName) (t n : ℕ) (old : List ℕ) → grows p k t ≡ true
-      → (onward p n ≡ extended p k t n) × (old ≡ written (p .count) (closed p k t) old)
+      → (onward p n ≡ extended p k t n) × (old ≡ recorded (p .count) (closed p k t) old)
   unfolding extended closed
-  on-grown k t n old e = rw e (refl, sym (written-none (p .count) old))
+  on-grown k t n old e = rw e (refl, sym (recorded-none (p .count) old))
 
   pub on-anew : (k : JobName) (t n c : ℕ) (old ws : List ℕ) → grows p k t ≡ false → c ≡ p .count + length (openRun p)
-      → ws ≡ written (p .count) (openRun p) old → (anew c k t n ≡ extended p k t n) × (ws ≡ written (p .count) (closed p k t) old)
+      → ws ≡ recorded (p .count) (openRun p) old → (anew c k t n ≡ extended p k t n) × (ws ≡ recorded (p .count) (closed p k t) old)
   unfolding extended closed
   on-anew k t n c old ws e f g = rw e (rw f, g)
 

@@ -24,7 +24,7 @@ use Rattle.plan.specs.Places.{Short, short, releasesOf, chosenAt, heldBy
 use Rattle.plan.specs.Kept.{Kept}
 use Rattle.plan.specs.Next.{nextOf, next-ahead, next-quiet}
 use Rattle.plan.specs.Turns.{turns, next-turn, job-turn}
-use Rattle.plan.specs.Pens.{named, blank, openRun, pending, written, closed, extended, length-words, written-after, pending-end}
+use Rattle.plan.specs.Pens.{named, blank, openRun, pending, recorded, closed, extended, length-words, recorded-after, pending-end}
 use Rattle.plan.specs.Pens.{pending-blank, extended-pending, extended-count, extended-ends}
 
 -- the runs from t on
@@ -97,7 +97,7 @@ module _ {b t : ℕ} {ss Ts : List ℕ} {total : List Run} {old ws : List ℕ} {
 
   pub finish : b ≤ t
       → (p .count + length (openRun p) ≡ length total)
-      × (written (p .count) (openRun p) ws ≡ wordsOf total ++ drop (4 * (p .count + length (openRun p))) old)
+      × (recorded (p .count) (openRun p) ws ≡ wordsOf total ++ drop (4 * (p .count + length (openRun p))) old)
   unfolding slotsFrom runsFrom
   finish h =
       let z : b - t ≡ 0 = omega arith in
@@ -105,7 +105,7 @@ module _ {b t : ℕ} {ss Ts : List ℕ} {total : List Run} {old ws : List ℕ} {
       ap (λ l. s .done ++ l)
       (sym (ap (λ n. pending p (runsFrom t (slotsFrom n t (rowJobs ss Ts nss)))) z ∙ pending-end p)) ∙ s .plan in (
         omega (arith, s .count, sym (length-append (s .done) (openRun p)) ∙ ap length e),
-        ap (written (p .count) (openRun p)) (s .words) ∙ written-after old (s .done) (openRun p) (p .count) (s .count) ∙ rw e,
+        ap (recorded (p .count) (openRun p)) (s .words) ∙ recorded-after old (s .done) (openRun p) (p .count) (s .count) ∙ rw e,
       )
 
   -- the place chosen: its first unfinished job is the choice, and one of its sixteen; or it is none
@@ -191,7 +191,7 @@ module _ {b t : ℕ} {ss Ts : List ℕ} {total : List Run} {old ws : List ℕ} {
           job-turn b t n (nextOf b t Ts) left-changed (chosen-needs t (rowJobs ss Ts nss) e) h f (coming refl .0) (idle-less refl)
 
       ran : let k = named (getD ss i 0) j in
-          State b (t + n) ss Ts total old (written (p .count) (closed p k t) ws) (withNeed nss i j (needAt nss i j - n)) (extended p k t n)
+          State b (t + n) ss Ts total old (recorded (p .count) (closed p k t) ws) (withNeed nss i j (needAt nss i j - n)) (extended p k t n)
       ran =
           let k = named (getD ss i 0) j in
           let js : List Job = rowJobs ss Ts nss in
@@ -217,8 +217,8 @@ module _ {b t : ℕ} {ss Ts : List ℕ} {total : List Run} {old ws : List ℕ} {
             names = keys-spent n (some k) (s .left) (s .names);
             done = s .done ++ closed p k t;
             count = length-append (s .done) (closed p k t) ∙ omega (arith, s .count, extended-count p k t n);
-            words = ap (written (p .count) (closed p k t)) (s .words)
-                ∙ written-after old (s .done) (closed p k t) (p .count) (s .count)
+            words = ap (recorded (p .count) (closed p k t)) (s .words)
+                ∙ recorded-after old (s .done) (closed p k t) (p .count) (s .count)
                 ∙ ap (λ m. wordsOf (s .done ++ closed p k t) ++ drop (4 * m) old) (sym (extended-count p k t n));
             plan = append-assoc (s .done) (closed p k t) (pending (extended p k t n) (toRun b (t + n) ks))
                 ∙ ap (λ rs. s .done ++ rs) (extended-pending p k t n one (toRun b (t + n) ks) ∙ ap (pending p) (sym runs))
@@ -228,6 +228,6 @@ module _ {b t : ℕ} {ss Ts : List ℕ} {total : List Run} {old ws : List ℕ} {
 
       -- where the words and the pen are such
       pub job-step : {vs : List ℕ} {o : Pen} → let k = named (getD ss i 0) j in
-          vs ≡ written (p .count) (closed p k t) ws → o ≡ extended p k t n
+          vs ≡ recorded (p .count) (closed p k t) ws → o ≡ extended p k t n
           → State b (t + n) ss Ts total old vs (withNeed nss i j (needAt nss i j - n)) o
       job-step x y = subst₂ (λ vs o. State b (t + n) ss Ts total old vs (withNeed nss i j (needAt nss i j - n)) o) (sym x) (sym y) ran

@@ -14,7 +14,7 @@ ghost use Rattle.plan.specs.Needs.{Counted, needsRow, needRows};
 ghost use Rattle.plan.specs.Heads.{firstLeft};
 ghost use Rattle.plan.specs.Next.{nextOf};
 ghost use Rattle.plan.specs.Places.{Short, never, releaseOf, releasesOf, chosenAt};
-ghost use Rattle.plan.specs.Pens.{blank, named, openRun, written, grows, closed, extended};
+ghost use Rattle.plan.specs.Pens.{blank, named, openRun, recorded, grows, closed, extended};
 
 // Later than any job of an interval is due.
 const NEVER: u32 = 4294967295;
@@ -101,15 +101,15 @@ fn fill_heads(heads: &mut [usize; 32], rows: usize, needs: &[[u32; 16]; 32])
     }
 }
 
-// When a row's first unfinished job is released; NEVER where it has none.
-fn release_of(length: u32, job: usize) -> u32
-    requires { ⌜ length ≤ 1024000 ⌝ }
-    ensures { λ r. ⌜ r ≡ releaseOf length job ⌝ }
+// When a row's first unfinished job is released, where each is so many slots long; NEVER where it has none.
+fn release_of(slots: u32, job: usize) -> u32
+    requires { ⌜ slots ≤ 1024000 ⌝ }
+    ensures { λ r. ⌜ r ≡ releaseOf slots job ⌝ }
 {
     if 16 <= job {
         return NEVER;
     }
-    (job as u32) * length
+    (job as u32) * slots
 }
 
 // The same of each row; those behind the first rows have none.
@@ -145,22 +145,22 @@ fn choose_place(t: u32, rows: usize, lengths: &[u32; 32], releases: &[u32; 32]) 
 }
 
 // A record of four words.
-fn write_record(plan: &mut [u32], n: usize, stream: u32, job: u32, start: u32, length: u32)
-    requires { ⌜ 4 * n + 4 ≤ lib.ListN.length (now plan) ⌝ }
-    ensures { λ _. ⌜ now (plan .exit) ≡ written n (run (named stream job) start length ∷ []) (now (plan .entry)) ⌝ }
+fn write_record(plan: &mut [u32], n: usize, stream: u32, job: u32, start: u32, slots: u32)
+    requires { ⌜ 4 * n + 4 ≤ length (now plan) ⌝ }
+    ensures { λ _. ⌜ now (plan .exit) ≡ recorded n (run (named stream job) start slots ∷ []) (now (plan .entry)) ⌝ }
 {
     let at = 4 * n;
     plan[at] = stream;
     plan[at + 1] = job;
     plan[at + 2] = start;
-    plan[at + 3] = length;
+    plan[at + 3] = slots;
 }
 
 // The run that may still grow is written; how many records there are then.
 fn put_run(pen: Pen, plan: &mut [u32]) -> usize
     requires { ⌜ 4 * pen .count + 4 ≤ length (now plan) ⌝ }
     ensures { λ r. ⌜ (r ≡ pen .count + length (openRun pen))
-        × (now (plan .exit) ≡ written (pen .count) (openRun pen) (now (plan .entry))) ⌝ }
+        × (now (plan .exit) ≡ recorded (pen .count) (openRun pen) (now (plan .entry))) ⌝ }
 {
     let count = pen.count;
     if pen.length == 0 {
@@ -188,7 +188,7 @@ fn run_grows(pen: Pen, stream: u32, job: u32, t: u32) -> bool
 fn extend_run(pen: Pen, plan: &mut [u32], stream: u32, job: u32, t: u32, n: u32) -> Pen
     requires { ⌜ (4 * pen .count + 4 ≤ length (now plan)) × ((pen .start + pen .length ≤ t) × (t + n ≤ 1024000)) ⌝ }
     ensures { λ r. ⌜ (r ≡ extended pen (named stream job) t n)
-        × (now (plan .exit) ≡ written (pen .count) (closed pen (named stream job) t) (now (plan .entry))) ⌝ }
+        × (now (plan .exit) ≡ recorded (pen .count) (closed pen (named stream job) t) (now (plan .entry))) ⌝ }
 {
     if run_grows(pen, stream, job, t) {
         let mut grown = pen;

@@ -27,13 +27,13 @@ unfolding withByte
 full l b h = rw (le-ltb (l .len) rowMost h) refl
 
 -- ---- a row that fits
-fits : (l : Line) (row : List ℕ) → length (l .bytes) ≡ rowMost → l .len + length row ≤ rowMost
+under : (l : Line) (row : List ℕ) → length (l .bytes) ≡ rowMost → l .len + length row ≤ rowMost
     → (lineFrom l row .len ≡ l .len + length row) × (textOf (lineFrom l row) ≡ textOf l ++ row)
 unfolding lineFrom
-fits l [] h f = (omega arith, sym (append-nil _))
-fits l (b ∷ row) h f =
+under l [] h f = (omega arith, sym (append-nil _))
+under l (b ∷ row) h f =
     let next : Line = record { bytes = set (l .bytes) (l .len) b; len = suc (l .len) } in
-    let ih = fits next row (length-set (l .bytes) (l .len) b ∙ h) (omega arith) in
+    let ih = under next row (length-set (l .bytes) (l .len) b ∙ h) (omega arith) in
     let on = ap (λ z. lineFrom z row) (room l b (omega arith)) in (
       ap (λ z. z .len) on ∙ ih .0 ∙ omega arith,
       ap textOf on ∙ ih .1 ∙ ap (λ ys. ys ++ row) (take-suc-set (l .bytes) (l .len) b (omega arith)) ∙ append-assoc (textOf l) (b ∷ []) row,
@@ -41,7 +41,7 @@ fits l (b ∷ row) h f =
 
 pub kept-whole : (row : List ℕ) → length row ≤ rowMost → (lineOf row .len ≡ length row) × (textOf (lineOf row) ≡ row)
 unfolding noLine
-kept-whole row h = let k = fits noLine row (length-replicate {A = ℕ} rowMost 0) (omega arith) in (k .0 ∙ omega arith, k .1)
+kept-whole row h = let k = under noLine row (length-replicate {A = ℕ} rowMost 0) (omega arith) in (k .0 ∙ omega arith, k .1)
 
 -- ---- a row that does not
 over : (l : Line) (row : List ℕ) → l .len ≤ suc rowMost → rowMost < l .len + length row → lineFrom l row .len ≡ suc rowMost

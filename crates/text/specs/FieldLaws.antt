@@ -126,8 +126,8 @@ module _ (xs : List ℕ) (i v : ℕ) where
 
 -- ---- fields, one by one
 -- a field that is needed, or is not
-abbrev pub fits : Bool → List ℕ → Bool
-fits needed f = cond needed (isNumber f) (isEmpty f)
+abbrev pub asNeeded : Bool → List ℕ → Bool
+asNeeded needed f = cond needed (isNumber f) (isEmpty f)
 
 -- i fields are passed, and the first n of all are numbers
 unfoldable pub fitFrom : (i n : ℕ) → List (List ℕ) → Bool
@@ -139,27 +139,27 @@ swap false true c = refl
 swap false false c = refl
 
 module _ (i n : ℕ) (f : List ℕ) (fs : List (List ℕ)) where
-  filled-next : filled (n - i) (f ∷ fs) ≡ (fits (ltb i n) f && filled (n - (i + 1)) fs)
+  filled-next : filled (n - i) (f ∷ fs) ≡ (asNeeded (ltb i n) f && filled (n - (i + 1)) fs)
   unfolding filled
   filled-next = go (ltb i n) refl
     where
-      go : (t : Bool) → ltb i n ≡ t → filled (n - i) (f ∷ fs) ≡ (fits t f && filled (n - (i + 1)) fs)
+      go : (t : Bool) → ltb i n ≡ t → filled (n - i) (f ∷ fs) ≡ (asNeeded t f && filled (n - (i + 1)) fs)
       go true h = let e : n - i ≡ suc (n - (i + 1)) = omega (arith, ltb-true i n h) in rw e
       go false h =
           let e : n - i ≡ 0 = omega (arith, ltb-false i n h) in
           let k : n - (i + 1) ≡ 0 = omega arith in
           rw (e, k)
 
-  fit-next : fitFrom i n (f ∷ fs) ≡ (fits (ltb i n) f && fitFrom (i + 1) n fs)
+  fit-next : fitFrom i n (f ∷ fs) ≡ (asNeeded (ltb i n) f && fitFrom (i + 1) n fs)
   unfolding fitFrom
   fit-next =
       let e : i + suc (length fs) ≡ i + 1 + length fs = omega arith in
-      rw (e, filled-next) (swap (eqb (i + 1 + length fs) 6) (fits (ltb i n) f) (filled (n - (i + 1)) fs))
+      rw (e, filled-next) (swap (eqb (i + 1 + length fs) 6) (asNeeded (ltb i n) f) (filled (n - (i + 1)) fs))
 
-  pub fit-passed : fits (ltb i n) f ≡ true → fitFrom i n (f ∷ fs) ≡ fitFrom (i + 1) n fs
+  pub fit-passed : asNeeded (ltb i n) f ≡ true → fitFrom i n (f ∷ fs) ≡ fitFrom (i + 1) n fs
   fit-passed h = fit-next ∙ rw h
 
-  pub fit-refused : fits (ltb i n) f ≡ false → fitFrom i n (f ∷ fs) ≡ false
+  pub fit-refused : asNeeded (ltb i n) f ≡ false → fitFrom i n (f ∷ fs) ≡ false
   fit-refused h = fit-next ∙ rw h
 
 pub fit-all : (n : ℕ) (fs : List (List ℕ)) → fitFrom 0 n fs ≡ (eqb (length fs) 6 && filled n fs)

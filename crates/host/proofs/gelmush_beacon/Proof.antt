@@ -61,7 +61,7 @@ use Rattle.host.proofs.Sent as S
 use Rattle.host.proofs.Sent.Laws as S′
 use Rattle.lent.proofs.Lent.{machine, lent as tracked, loan, table-copied, table-closes}
 use Rattle.lent.proofs.Locals.{cell, enters, freed, keeps, value, part, sets, receives}
-use Rattle.lent.proofs.Walk.{spells}
+use Rattle.lent.proofs.Walk.{tells-value}
 use Rattle.lent.proofs.Answers.{Numbers, calls-number}
 use Rattle.host.proofs.gelmush_beacon.Key.{name as #host·gelmush-beacon}
 use Rattle.host.proofs.gelmush_beacon as lent
@@ -177,7 +177,7 @@ module _ {M : Type 1} (𝓤 : URA M) (H : Heap 𝓤) (A : Atoms 𝓤) (at-mem : 
         fsplit ! $ move ! (1 ∷ []) $ fsplit ! $ fsplit ! $ move ! (1 ∷ []) $ feqL ! (λ l.
         -- [the last list; true; true; the plan's token and the result; the table; …]
         move ! (3 ∷ []) $ split ! $ move ! (1 ∷ []) $ facts ! B.the-row (Is B.the-row) (shows 𝓤 H A B.the-row) r (w ∷ []) (λ at-w.
-        spells ! B.the-row (LL.val B.the-type B′.the-laws) (LL.tells B.the-type B′.the-laws) r w at-w (λ is.
+        tells-value ! B.the-row (LL.val B.the-type B′.the-laws) (LL.tells B.the-type B′.the-laws) r w at-w (λ is.
         let fields-are = LL.owed B.the-type B′.the-laws r _ is in
         -- [token; last list; true; true; the table; the open loan; obs; auth; the locals; true]
         receives ! 8 refl tt (LL.lawful B.the-type B′.the-laws 𝓤 H A W .typed r _ is .0) $

@@ -28,8 +28,8 @@ returns : tie.Need-returns
 unfolding commandIn
 returns c =
     let r4 = c .before .before .before .before in
-    let fits : leb (r4 .args .line .len) rowMost ≡ true = le-leb _ _ (c .before .before .before .if1 .taken) in
-    rw fits (c .command-of .ensures)
+    let short : leb (r4 .args .line .len) rowMost ≡ true = le-leb _ _ (c .before .before .before .if1 .taken) in
+    rw short (c .command-of .ensures)
 
 returns-2 : tie.Need-returns-2
 unfolding commandIn

@@ -80,7 +80,7 @@ less c = omega (arith, some c)
 room : (c : tie.After-cut-row Inv-loop μ-loop) → turn c .loop .next + answerMost ≤ length (turn c .loop .out)
 room c =
     let most = entry c .pre .1 .1 in
-    let fits = leb-true (turn c .loop .next) (length (now (entry c .args .out)) - answerMost) (c .before .before .if1 .taken) in
+    let spare = leb-true (turn c .loop .next) (length (now (entry c .args .out)) - answerMost) (c .before .before .if1 .taken) in
     let same = turn c .loop .inv .1 .1 .1 .1 .1 in
     omega arith
 
@@ -117,7 +117,7 @@ again c {q} told a k =
     let r = cut c in
     let l = turn r .loop in
     let i = l .inv in
-    let fits = room r in
+    let spare = room r in
     let same = i .1 .1 .1 .1 in
     let place = a .1 .0 in
     let most = rows-most (state r) q (i .1 .0) in (

@@ -68,7 +68,7 @@ cast-capacity : tie.Need-cast-capacity Inv-loop μ-loop
 cast-capacity c = omega (arith, soon c .1)
 
 sub-capacity-2 : tie.Need-sub-capacity-2 Inv-loop μ-loop
-sub-capacity-2 c = known (c .before) .fits
+sub-capacity-2 c = known (c .before) .enough
 
 mul-capacity : tie.Need-mul-capacity Inv-loop μ-loop
 mul-capacity c =

@@ -3,7 +3,7 @@ use native.Mathlib.Omega.{arith}
 use lib.ListN.{length-set}
 use borrow.Author.Needs.{needs}
 use Rattle.rules.specs.Slots.{run}
-use Rattle.plan.specs.Pens.{named, record-written}
+use Rattle.plan.specs.Pens.{named, one-recorded}
 use Rattle.plan.proofs.write_record.Statement.{statement}
 use Rattle.plan.proofs.write_record.Tie as tie
 
@@ -49,7 +49,7 @@ same-length c = search needs
 returns : tie.Need-returns
 returns c =
     let a = c .args in
-    record-written (a .plan .now) (a .n) (run (named (a .stream) (a .job)) (a .start) (a .length)) (c .pre)
+    one-recorded (a .plan .now) (a .n) (run (named (a .stream) (a .job)) (a .start) (a .slots)) (c .pre)
 
 pub write-record-spec : {M : Type 1} → statement M
 write-record-spec =
