@@ -4,6 +4,7 @@ ghost use mathlib.Core.Path.{_≡_};
 ghost use Prim.Native.Nat.{_-_, _/_, _%_, min};
 ghost use lib.Dec.{eqb};
 ghost use Rattle.lists.specs.Lists.{within};
+ghost use Rattle.ranges.specs.Upward.{upward};
 
 pub fn is_within(least: u32, largest: u32, x: u32) -> bool
     ensures { λ r. ⌜ r ≡ within least largest x ⌝ }
@@ -51,6 +52,17 @@ pub fn is_multiple(n: u32, m: u32) -> bool
         return n == 0;
     }
     n % m == 0
+}
+
+// a over b, rounded up: one more where something remains. 0 where b is 0.
+pub fn upward(a: u32, b: u32) -> u32
+    ensures { λ r. ⌜ r ≡ upward a b ⌝ }
+{
+    let whole = part_of(a, b);
+    if 0 < b && 0 < a % b {
+        return whole + 1;
+    }
+    whole
 }
 
 pub fn both(a: bool, b: bool) -> bool
