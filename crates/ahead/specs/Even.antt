@@ -4,13 +4,14 @@ use mathlib.Core.Path.{_≡_}
 use mathlib.Core.Logic.{⊎-elim}
 use mathlib.Core.Bool.{Bool, true, false, cond}
 use mathlib.Core.List.{List}
-use Prim.Native.Nat.{ℕ, zero, suc, _+_, _*_, _-_, _/_, _≤_, _<_, max}
-use native.Mathlib.Nat.{zero-add, suc-add, le-trans, mod-lt, div-add-mod', mul-le-mul-right}
+use Prim.Native.Nat.{ℕ, zero, suc, _+_, _*_, _≤_, _<_, max}
+use native.Mathlib.Nat.{zero-add, suc-add, le-trans, mul-le-mul-right}
 use native.Mathlib.Omega.{arith}
 use borrow.Author.Tests.{eq-eqb}
 use Rattle.lists.specs.Lists.{sumOf, span}
 use Rattle.lists.specs.All.{all-map}
 use Rattle.lists.specs.Sums.{sum-le}
+use Rattle.ranges.specs.Upward.{upward, upward-enough}
 use Rattle.theory.specs.Time.{due, due-le, due-in}
 use Rattle.theory.specs.Necessity.{Fed, fed-gone, fed-room}
 use Rattle.model.specs.Entries.{isKind, isPiece}
@@ -24,19 +25,12 @@ use Rattle.ahead.specs.Moved.{Together}
 use Rattle.ahead.specs.Fits.{loadsAt, loads-now}
 use Rattle.ahead.specs.Exact.{fits-ahead}
 
--- a over b, rounded up
-abbrev pub upward : ℕ → ℕ → ℕ
-upward a b = (a + (b - 1)) / b
-
 -- so many slots of each interval serve a piece in time: what it is owed by its deadline, and kind 2 its minimum in each later period
 unfoldable pub evenly : Entry → ℕ
 evenly e =
     let now = upward (e .owed .0) (e .left .0) in
     let on = upward (e .min .0) (e .period .0) in
     cond (isPiece e) (cond (isKind 2 e) (max now on) now) 0
-
-upward-enough : (a b : ℕ) → 1 ≤ b → a ≤ upward a b * b
-upward-enough a b h = omega (arith, div-add-mod' (a + (b - 1)) b, mod-lt (a + (b - 1)) h)
 
 -- the same in every interval
 span-first : (c l : ℕ) → span (λ _. c) 0 l ≡ c * l

@@ -4,7 +4,6 @@ use mathlib.Core.Path.{_≡_, refl, ap₂, _∙_}
 use mathlib.Core.Bool.{Bool, true, false, cond}
 use mathlib.Core.List.{List, [], _∷_}
 use Prim.Native.Nat.{ℕ, zero, suc, _-_, _≤_, _<_, max}
-use native.Mathlib.Nat.{div-zero, div-eq-of-lt}
 use native.Mathlib.Omega.{arith}
 use lib.Dec.{eqb}
 use lib.ListN.{length, getD}
@@ -12,12 +11,13 @@ use borrow.Author.Tests.{ne-eqb}
 use Rattle.lists.specs.Lists.{sumOf}
 use Rattle.lists.specs.All.{stop, and}
 use Rattle.lists.specs.Spare.{Spare}
+use Rattle.ranges.specs.Upward.{upward, upward-none}
 use Rattle.model.specs.Entries.{freeEntry}
 use Rattle.model.specs.declared.Entry.{Entry}
 use Rattle.laws.specs.Held.{Fraction, Piece}
 use Rattle.queue.specs.Zips.{zip, length-zip, zip-at, zip-spare}
 use Rattle.amounts.specs.Amounts.{loadOf}
-use Rattle.ahead.specs.Even.{upward, evenly}
+use Rattle.ahead.specs.Even.{evenly}
 use Rattle.even.specs.Need.{evenNeed, need-fraction, need-piece}
 
 -- what a place needs in each interval once its present period is over: a period 0 stands for none, and then the amount is what each
@@ -48,10 +48,6 @@ pub record Shared (owed ends amounts periods : List ℕ) (used now : ℕ) : Type
   pub ahead : (i : ℕ) → i < 32 → now ≤ getD ends i 0
 
 -- ---- nothing needs nothing
-upward-none : (b : ℕ) → upward 0 b ≡ 0
-upward-none zero = div-zero 0
-upward-none (suc b) = div-eq-of-lt (omega arith)
-
 steadily-none : (p : ℕ) → steadily p 0 ≡ 0
 steadily-none p = go (eqb p 0)
   where

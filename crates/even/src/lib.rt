@@ -2,35 +2,26 @@
 // deadline. Where an interval has room for that, every entry is served in time, and no interval need be looked at.
 ghost use mathlib.Core.Path.{_≡_};
 ghost use Prim.Native.Nat.{_+_, _≤_, max};
-ghost use Rattle.ahead.specs.Even.{upward, evenly};
+ghost use Rattle.ranges.specs.Upward.{upward};
+ghost use Rattle.ahead.specs.Even.{evenly};
 ghost use Rattle.amounts.specs.Amounts.{loadOf};
 ghost use Rattle.even.specs.Need.{evenNeed};
 ghost use Rattle.even.specs.Needs.{steadily, evenNeeds, Shared};
 use model::Entry;
 
-// a over b, rounded up.
-fn upward(a: u32, b: u32) -> u64
-    ensures { λ r. ⌜ (r ≡ upward a b) × (r ≤ 8589934590) ⌝ }
-{
-    if b == 0 {
-        return 0;
-    }
-    (a as u64 + (b as u64 - 1)) / b as u64
-}
-
 // So many slots of each interval serve a piece in time.
-fn even_slots(e: Entry) -> u64
-    ensures { λ r. ⌜ (r ≡ evenly e) × (r ≤ 8589934590) ⌝ }
+fn even_slots(e: Entry) -> u32
+    ensures { λ r. ⌜ r ≡ evenly e ⌝ }
 {
     if !amounts::is_piece(e) {
         return 0;
     }
-    let now = upward(e.owed.0, e.left.0);
+    let now = ranges::upward(e.owed.0, e.left.0);
     let kind = e.kind;
     if kind != 2 {
         return now;
     }
-    let on = upward(e.min.0, e.period.0);
+    let on = ranges::upward(e.min.0, e.period.0);
     if now < on {
         return on;
     }
@@ -39,31 +30,31 @@ fn even_slots(e: Entry) -> u64
 
 // An entry is of kind 1 or a piece, never both.
 pub fn need_of(e: Entry) -> u64
-    ensures { λ r. ⌜ (r ≡ evenNeed e) × (r ≤ loadOf e + 8589934590) ⌝ }
+    ensures { λ r. ⌜ (r ≡ evenNeed e) × (r ≤ loadOf e + 4294967295) ⌝ }
 {
     let kind = e.kind;
     if kind == 1 {
         return amounts::load_of(e);
     }
-    even_slots(e)
+    even_slots(e) as u64
 }
 
 // ---- by the figures of the places, as looking ahead keeps them
 // What each later period takes of an interval; where there is none, the period is 0, and the amount is what each interval takes.
-fn steady(period: u32, amount: u32) -> u64
-    ensures { λ r. ⌜ (r ≡ steadily period amount) × (r ≤ 8589934590) ⌝ }
+fn steady(period: u32, amount: u32) -> u32
+    ensures { λ r. ⌜ r ≡ steadily period amount ⌝ }
 {
     if period == 0 {
-        return amount as u64;
+        return amount;
     }
-    upward(amount, period)
+    ranges::upward(amount, period)
 }
 
 // So many slots of each interval serve a place in time: what it is owed up to its end, and what it takes later.
-fn needed(owed: u32, left: u32, amount: u32, period: u32) -> u64
-    ensures { λ r. ⌜ (r ≡ max (upward owed left) (steadily period amount)) × (r ≤ 8589934590) ⌝ }
+fn needed(owed: u32, left: u32, amount: u32, period: u32) -> u32
+    ensures { λ r. ⌜ r ≡ max (upward owed left) (steadily period amount) ⌝ }
 {
-    let by_end = upward(owed, left);
+    let by_end = ranges::upward(owed, left);
     let later = steady(period, amount);
     if by_end < later {
         return later;
@@ -85,7 +76,7 @@ pub fn needs_of(
 {
     let mut needs: u64 = 0;
     for i in 0..used {
-        needs = needs + needed(owed[i], ends[i] - at, amounts[i], periods[i]);
+        needs = needs + needed(owed[i], ends[i] - at, amounts[i], periods[i]) as u64;
     }
     needs
 }

@@ -11,13 +11,13 @@ use lib.Seq.{ext-getD}
 use Rattle.lists.specs.Lists.{sumOf}
 use Rattle.lists.specs.Sums.{sum-map}
 use Rattle.lists.specs.Loops.{map-at}
+use Rattle.ranges.specs.Upward.{upward}
 use Rattle.model.specs.Entries.{freeEntry, isKind}
 use Rattle.model.specs.declared.Entry.{Entry}
 use Rattle.model.specs.declared.Table.{Table}
 use Rattle.rules.specs.WellFormed.{Held}
 use Rattle.laws.specs.Held.{Fraction, Piece, held-kinds, held-is, piece-of, fraction-not}
 use Rattle.laws.specs.Places.{Tidy}
-use Rattle.ahead.specs.Even.{upward}
 use Rattle.amounts.specs.Amounts.{owedTo, loadOf}
 use Rattle.even.specs.Need.{evenNeed, even-enough}
 use Rattle.even.specs.Needs.{steadily, needsAt, evenNeeds, Shared, needs-sized, needs-at}

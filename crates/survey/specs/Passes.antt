@@ -68,9 +68,9 @@ with-held stream i e s n t f m =
     (f ∙ sym (ap (λ b. cond b (s .free) (cond (eqb (s .free) i) (i + 1) (s .free))) held)) m
     (sym (ap (λ b. cond b (s .used) (i + 1)) held))
 
--- no entry of a table needs more: what kind 1 takes of an interval, and a 32-bit number over another, rounded up
+-- no entry of a table needs more: what kind 1 takes of an interval, and a number of 32 bits
 abbrev pub mostNeed : ℕ
-mostNeed = mostSlots + 8589934590
+mostNeed = mostSlots + 4294967295
 
 -- what it has found of the first i places
 pub record Passed (stream : ℕ) (es : List Entry) (i : ℕ) (s : Survey) : Type 0 where

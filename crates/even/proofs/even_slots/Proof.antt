@@ -15,7 +15,7 @@ returns : tie.Need-returns
 unfolding evenly
 returns c =
     let q = sym (c .before .is-piece .ensures) ∙ not-true (c .before .is-piece .result) (c .if1 .taken) in
-    rw q (refl, omega arith)
+    rw q refl
 
 upward-requires : tie.Need-upward-requires
 upward-requires c κs = search needs
@@ -25,9 +25,7 @@ unfolding evenly
 returns-2 c =
     let h = c .before .before in
     let q = sym (h .before .is-piece .ensures) ∙ not-false (h .before .is-piece .result) (h .if1 .left) in
-    let a = c .before .upward .ensures in
-    let f = a .1 in
-    rw (q, ne-eqb _ _ (c .if2 .taken)) (a .0, omega arith)
+    rw (q, ne-eqb _ _ (c .if2 .taken)) (c .before .upward .ensures)
 
 upward-requires-2 : tie.Need-upward-requires-2
 upward-requires-2 c κs = search needs
@@ -41,8 +39,7 @@ returns-3 c =
     let a = k .before .upward .ensures in
     let b = c .before .upward2 .ensures in
     let t = c .if3 .taken in
-    let f = b .1 in
-    rw (q, eq-eqb _ _ (k .if2 .left)) (larger-right _ _ (omega arith) ∙ ap₂ max (a .0) (b .0), omega arith)
+    rw (q, eq-eqb _ _ (k .if2 .left)) (larger-right _ _ (omega arith) ∙ ap₂ max a b)
 
 returns-4 : tie.Need-returns-4
 unfolding evenly
@@ -52,9 +49,7 @@ returns-4 c =
     let q = sym (h .before .is-piece .ensures) ∙ not-false (h .before .is-piece .result) (h .if1 .left) in
     let a = k .before .upward .ensures in
     let b = c .before .upward2 .ensures in
-    let t = c .if3 .left in
-    let f = a .1 in
-    rw (q, eq-eqb _ _ (k .if2 .left)) (larger-left _ _ t ∙ ap₂ max (a .0) (b .0), omega arith)
+    rw (q, eq-eqb _ _ (k .if2 .left)) (larger-left _ _ (c .if3 .left) ∙ ap₂ max a b)
 
 pub even-slots-spec : {M : Type 1} → statement M
 even-slots-spec =

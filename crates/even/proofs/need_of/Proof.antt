@@ -14,11 +14,13 @@ returns c = (let e = c .load-of .ensures in (e ∙ need-fraction _ (c .before .i
 even-slots-requires : tie.Need-even-slots-requires
 even-slots-requires c κs = search needs
 
+cast-result : tie.Need-cast-result
+cast-result c = search needs
+
 returns-2 : tie.Need-returns-2
 returns-2 c =
     let e = c .even-slots .ensures in
-    let most = e .1 in
-    (e .0 ∙ need-piece _ (c .before .if1 .left), omega arith)
+    (e ∙ need-piece _ (c .before .if1 .left), omega arith)
 
 pub need-of-spec : {M : Type 1} → statement M
-need-of-spec = tie.close (tie.spec load-of-requires returns even-slots-requires returns-2)
+need-of-spec = tie.close (tie.spec load-of-requires returns even-slots-requires cast-result returns-2)

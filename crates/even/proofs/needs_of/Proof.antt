@@ -14,7 +14,7 @@ use Rattle.even.proofs.needs_of.Tie as tie
 
 abbrev Inv-loop : tie.InvT-loop
 Inv-loop owed ends amounts periods used at needs₀ i₀ needs i =
-    (i ≤ used) × (needs ≡ summed (λ v. v) i (needsAt at owed ends amounts periods)) × (needs ≤ 8589934590 * i)
+    (i ≤ used) × (needs ≡ summed (λ v. v) i (needsAt at owed ends amounts periods)) × (needs ≤ 4294967295 * i)
 
 abbrev μ-loop : tie.MeasureT-loop
 μ-loop owed ends amounts periods used at needs₀ i₀ needs i = used - i
@@ -59,6 +59,9 @@ element-copy-out-needed-4 c = search needs
 needed-requires : tie.Need-needed-requires Inv-loop μ-loop
 needed-requires c κs = search needs
 
+cast-needs : tie.Need-cast-needs Inv-loop μ-loop
+cast-needs c = search needs
+
 add-needs : tie.Need-add-needs Inv-loop μ-loop
 add-needs c = search needs
 
@@ -74,11 +77,10 @@ loop-again c =
     let z = l .before .before in
     let v = l .before .loop .inv in
     let h = inside l in
-    let n = c .needed .ensures in
-    let most = n .1 in (
+    let n = c .needed .ensures in (
       omega arith,
       summed-more (λ w. w) (all z) (l .before .loop .i) 0 (omega (arith, needs-sized (z .pre))) (v .1)
-          (n .0 ∙ sym (needs-at (z .pre) (l .before .loop .i) h)),
+          (n ∙ sym (needs-at (z .pre) (l .before .loop .i) h)),
       omega arith,
     )
 
@@ -108,6 +110,7 @@ needs-of-spec =
     mul-needed-4
     element-copy-out-needed-4
     needed-requires
+    cast-needs
     add-needs
     add-i
     loop-less

@@ -1,13 +1,12 @@
 -- `even::steady` meets its contract, by whether there is a period. Assumes nothing.
 use mathlib.Core.Path.{refl}
-use native.Mathlib.Omega.{arith}
 use borrow.Author.Needs.{needs}
 use borrow.Author.Tests.{ne-eqb}
 use Rattle.even.proofs.steady.Statement.{statement}
 use Rattle.even.proofs.steady.Tie as tie
 
 returns : tie.Need-returns
-returns c = rw (c .if1 .taken) (refl, omega arith)
+returns c = rw (c .if1 .taken) refl
 
 upward-requires : tie.Need-upward-requires
 upward-requires c κs = search needs
