@@ -1,5 +1,5 @@
--- The worked cases 1 to 9 of document 01, "Tested by hand": one list, and one theorem. Where a case leaves a field open,
--- docs/DECISIONS.md says what was chosen. Assumes nothing.
+-- The worked cases 1 to 9 of document 01, "Tested by hand", and after them two of our own: one list, and one theorem. Where a case leaves
+-- a field open, docs/DECISIONS.md says what was chosen. Assumes nothing.
 use Prim.Native.Nat.{ℕ, _*_}
 use mathlib.Core.Path.{_≡_, refl}
 use mathlib.Core.Bool.{Bool, true, _&&_}
@@ -144,8 +144,27 @@ case9 =
     ∷ answers (Window 513 512) 41
     ∷ [])
 
+-- ---- two that are ours and not the document's, whose cases say nothing of these orders
+-- jobs of kind 1 due at once: the lower stream number goes first, though it was offered later
+abbrev pub tiesOfKind1 : List Line
+tiesOfKind1 =
+    answers (Open 1) 0
+    ∷ answers (Offer 8 1 2 200 200 1) 0
+    ∷ answers (Offer 6 1 2 100 100 1) 0
+    ∷ shows Tick (6 ∷ 0 ∷ 0 ∷ 100 ∷ 8 ∷ 0 ∷ 100 ∷ 200 ∷ 6 ∷ 1 ∷ 512 ∷ 100 ∷ 8 ∷ 1 ∷ 612 ∷ 200 ∷ [])
+    ∷ []
+
+-- as many intervals left, and an interval too short for both: kind 2 goes before 3, though the transfer has the lower stream number
+abbrev pub kind2First : List Line
+kind2First =
+    answers (Open 1) 0
+    ∷ answers (Offer 2 3 2 700 0 2) 0
+    ∷ answers (Offer 4 2 2 800 800 2) 0
+    ∷ shows Tick (4 ∷ 0 ∷ 0 ∷ 800 ∷ 2 ∷ 0 ∷ 800 ∷ 224 ∷ [])
+    ∷ []
+
 abbrev pub cases : List Line
-cases = case1 ++ cases23 ++ case4 ++ case5 ++ case6 ++ case7 ++ case8 ++ case9
+cases = case1 ++ cases23 ++ case4 ++ case5 ++ case6 ++ case7 ++ case8 ++ case9 ++ tiesOfKind1 ++ kind2First
 
 abbrev pub start : State
 start = record { table = opened 1; words = replicate 4096 0; count = 0 }
