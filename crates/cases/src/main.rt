@@ -1,5 +1,5 @@
-// Runs the proved calls on the cases of document 01, "Tested by hand", and prints a row for each call and each record. The rows that the
-// document gives are stored beside this file, in `stdout`, and every run is held to them.
+// Runs the proved calls on the cases of document 01, "Tested by hand", and on two of our own, and prints a row for each call and each
+// record. The rows that the document gives, and ours, are stored beside this file, in `stdout`, and every run is held to them.
 ghost use Prim.Native.Nat.{_≤_};
 ghost use lib.ListN.{length};
 ghost use Rattle.rules.specs.WellFormed.{WellFormed};
@@ -123,6 +123,20 @@ fn case_10() {
     case_10_lent(4096, t, &mut clear);
 }
 
+// Not the document's: the lower stream number goes first within kind 1, and kind 2 before 3 whatever their numbers are.
+fn two_of_our_own(plan: &mut [u32]) {
+    display::line(b"our own: ties of kind 1");
+    let t = shown::table_of(1);
+    let t = shown::offer(t, 8, 1, 2, 200, 200, 1);
+    let t = shown::offer(t, 6, 1, 2, 100, 100, 1);
+    shown::beacon(t, plan);
+    display::line(b"our own: kind 2 before 3");
+    let t = shown::table_of(1);
+    let t = shown::offer(t, 2, 3, 2, 700, 0, 2);
+    let t = shown::offer(t, 4, 2, 2, 800, 800, 2);
+    shown::beacon(t, plan);
+}
+
 fn main() {
     let mut plan = [0u32; 4096];
     cases_1_to_3(&mut plan);
@@ -131,4 +145,5 @@ fn main() {
     cases_6_to_8();
     case_9();
     case_10();
+    two_of_our_own(&mut plan);
 }

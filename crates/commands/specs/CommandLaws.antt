@@ -1,14 +1,14 @@
 -- A command is its verb with its numbers. Assumes nothing.
-use mathlib.Core.Path.{_≡_, refl, sym, ap₂}
+use mathlib.Core.Path.{_≡_, refl, sym}
 use mathlib.Core.Bool.{Bool, true, false, cond, _&&_}
-use mathlib.Core.List.{List, [], _∷_, map}
+use mathlib.Core.List.{List, [], map}
 use mathlib.Core.Logic.{⊎-elim}
 use Prim.Native.Nat.{ℕ, _≤_, _<_}
 use lib.Dec.{eqb}
 use lib.ListN.{length, take, drop, getD, List·getD-map}
-use borrow.Author.Tests.{eqb-true, le-leb, lt-leb}
+use borrow.Author.Tests.{le-leb, lt-leb}
 use Rattle.lists.specs.Lists.{sameList}
-use Rattle.lists.specs.Tests.{and-both, both-and, eqb-refl, same-test, either, clash}
+use Rattle.lists.specs.Tests.{same-list, either}
 use Rattle.text.specs.Fields.{spelt, valueOf, filled, numberAt}
 use Rattle.text.specs.Rows.{rowMost}
 use Rattle.text.specs.FieldLaws.{toComma, fieldsAfter, fields-first, part, part-rest}
@@ -20,22 +20,6 @@ use Rattle.commands.specs.declared.Command.{Command}
 use Rattle.commands.specs.declared.Command.the-variants.{OtherForm}
 use Rattle.commands.specs.declared.Verb.{Verb}
 use Rattle.commands.specs.declared.Verb.the-variants as verb
-
--- ---- the test on two lists says whether they are equal
-same-list : (xs ys : List ℕ) → sameList xs ys ≡ true → xs ≡ ys
-same-list [] [] h = refl
-same-list [] (y ∷ ys) h = absurd (clash false h refl)
-same-list (x ∷ xs) [] h = absurd (clash false h refl)
-same-list (x ∷ xs) (y ∷ ys) h =
-    let b = and-both (eqb x y) (sameList xs ys) h in ap₂ _∷_ (eqb-true x y (b .0)) (same-list xs ys (b .1))
-
-list-same : (xs : List ℕ) → sameList xs xs ≡ true
-list-same [] = refl
-list-same (x ∷ xs) = both-and (eqb x x) (sameList xs xs) (eqb-refl x) (list-same xs)
-
-pub tells-same : (r : Bool) (xs ys : List ℕ) → (r ≡ true → xs ≡ ys) × (xs ≡ ys → r ≡ true) → r ≡ sameList xs ys
-tells-same r xs ys h =
-    same-test r (sameList xs ys) (λ t. rw (h .0 t) (list-same ys)) (λ t. h .1 (same-list xs ys t))
 
 -- ---- a command by its verb
 cond-same : (t : Bool) (a : Command) → cond t a a ≡ a

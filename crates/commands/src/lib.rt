@@ -1,6 +1,5 @@
 // What a row asks for. Document 01, "Reading, lending, printing".
 ghost use mathlib.Core.Path.{_≡_};
-ghost use Rattle.lists.specs.Lists.{sameList};
 ghost use Rattle.commands.specs.Commands.{commandOf};
 ghost use Rattle.commands.specs.Reads.{verbOf, countOf, asked};
 use model::Request;
@@ -23,26 +22,19 @@ enum Verb {
 
 const ROW_MOST: usize = 64;
 
-// The library's comparison, as an equation.
-fn is_verb(field: &[u8], verb: &[u8]) -> bool
-    ensures { λ r. ⌜ r ≡ sameList (now (field .entry)) (now (verb .entry)) ⌝ }
-{
-    check::same(field, verb)
-}
-
 fn verb_of(field: &[u8]) -> Verb
     ensures { λ r. ⌜ r ≡ verbOf (now (field .entry)) ⌝ }
 {
-    if is_verb(field, b"open") {
+    if fields::matches(field, b"open") {
         return Verb::Open;
     }
-    if is_verb(field, b"offer") {
+    if fields::matches(field, b"offer") {
         return Verb::Offer;
     }
-    if is_verb(field, b"withdraw") {
+    if fields::matches(field, b"withdraw") {
         return Verb::Withdraw;
     }
-    if is_verb(field, b"beacon") {
+    if fields::matches(field, b"beacon") {
         return Verb::Beacon;
     }
     Verb::Unknown

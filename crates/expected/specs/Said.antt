@@ -8,22 +8,25 @@ use mathlib.Core.Bool.{Bool, true, false, cond, _&&_}
 use mathlib.Core.List.{List, [], _∷_, _++_}
 use native.Mathlib.Omega.{arith}
 use lib.Dec.{eqb, ltb}
-use lib.ListN.{length, take, drop, length-take}
+use lib.ListN.{length, getD, take, drop, length-take}
 use lib.Seq.{take-at}
 use borrow.Author.Tests.{lt-ltb, le-ltb, eqb-true}
 use Rattle.lists.specs.Lists.{within, sameList}
-use Rattle.lists.specs.Tests.{either, clash, and-both}
+use Rattle.lists.specs.Tests.{either, and-both, same-list}
 use Rattle.model.specs.Requests.{refusal}
+use Rattle.model.specs.declared.Request.{Request}
 use Rattle.model.specs.declared.Table.{Table}
 use Rattle.rules.specs.Share.{order}
 use Rattle.rules.specs.Slots.{Run, tieOrder, jobs, choose, slotsFrom, stepD, prepend, runsFrom, stepE}
-use Rattle.rules.specs.Calls.{openAnswer, opened, wordsOf, planOf, advanced, Beacon, refusedBeacon, plannedBeacon, beacon}
+use Rattle.rules.specs.Calls.{openAnswer, opened, offerAnswer, offered}
+use Rattle.rules.specs.Calls.{wordsOf, planOf, advanced, Beacon, refusedBeacon, plannedBeacon, beacon}
 use Rattle.rules.specs.Reading.{windowAnswer, windowPart}
 use Rattle.rules.specs.Cases.{State, Line, Tick, Window, reply, plays, start, cases, cases-right}
-use Rattle.rules.specs.Cases.{offers1, case1, cases23, case4, case5, case6, case7, case8}
+use Rattle.rules.specs.Cases.{offers1, case1, cases23, case4, case5, case6, case7, case8, case9, tiesOfKind1}
 use Rattle.rules.specs.WellFormed.{WellFormed}
 use Rattle.ahead.specs.Formed.{opened-formed}
 use Rattle.plan.specs.Pens.{length-words}
+use Rattle.admission.specs.Six.{request}
 use Rattle.expected.specs.Windows.{answer-alone, part-alone}
 use Rattle.expected.specs.Words.{rows, row-count}
 
@@ -41,14 +44,6 @@ abbrev after : State → List Line → State
 after s [] = s
 after s (l ∷ ls) = after (reply s (l .ask) .next) ls
 
-same : (xs ys : List ℕ) → sameList xs ys ≡ true → xs ≡ ys
-same [] [] h = refl
-same [] (y ∷ ys) h = absurd (clash false h refl)
-same (x ∷ xs) [] h = absurd (clash false h refl)
-same (x ∷ xs) (y ∷ ys) h =
-    let p = and-both (eqb x y) (sameList xs ys) h in
-    ap (_∷ xs) (eqb-true x y (p .0)) ∙ ap (y ∷_) (same xs ys (p .1))
-
 -- the line that n others stand before
 told : (n : ℕ) (s : State) (ls : List Line) → plays s ls ≡ true → First (after s (take n ls)) (drop n ls)
 told zero s [] h = tt
@@ -57,7 +52,7 @@ told zero s (l ∷ ls) h =
     let r = reply s (l .ask) in
     let p = and-both (eqb (r .answer) (l .answer) && sameList (r .shown) (l .shown)) (plays (r .next) ls) h in
     let q = and-both (eqb (r .answer) (l .answer)) (sameList (r .shown) (l .shown)) (p .0) in
-    record { answer = eqb-true (r .answer) (l .answer) (q .0); shown = same (r .shown) (l .shown) (q .1) }
+    record { answer = eqb-true (r .answer) (l .answer) (q .0); shown = same-list (r .shown) (l .shown) (q .1) }
 told (suc n) s (l ∷ ls) h =
     let r = reply s (l .ask) in
     told n (r .next) ls
@@ -85,9 +80,32 @@ at8 = at7 + length case7
 abbrev pub at9 : ℕ
 at9 = at8 + length case8
 
+-- after the document's cases, ours
+abbrev pub atTies : ℕ
+atTies = at9 + length case9
+
+abbrev pub atKinds : ℕ
+atKinds = atTies + length tiesOfKind1
+
 -- the table of what case 1 offers
 abbrev pub table1 : Table
 table1 = after start offers1 .table
+
+-- ---- two requests, each by its six fields, on a new table of one time unit
+abbrev pub asked : List ℕ → Request
+asked q = request (getD q 0 0) (getD q 1 0) (getD q 2 0) (getD q 3 0) (getD q 4 0) (getD q 5 0)
+
+abbrev oneHeld : List ℕ → Table
+oneHeld p = offered (opened 1) (asked p)
+
+abbrev pub twoHeld : (p q : List ℕ) → Table
+twoHeld p q = offered (oneHeld p) (asked q)
+
+-- both are taken, and the plan is these records
+pub record PlanOfTwo (p q : List ℕ) (rs : List (List ℕ)) : Type 0 where
+  pub first : offerAnswer (opened 1) (asked p) ≡ 0
+  pub second : offerAnswer (oneHeld p) (asked q) ≡ 0
+  pub plan : rows (wordsOf (planOf (twoHeld p q))) ≡ rs
 
 -- ---- an opening that answers 0
 pub open-formed : (u : ℕ) → openAnswer u ≡ 0 → WellFormed (opened u)

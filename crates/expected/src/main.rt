@@ -1,19 +1,38 @@
-// Cases 1 to 10 of document 01, "Tested by hand", on the proved calls and the proved window. Every answer, every record count, every word
-// of a plan and every word of a window's part that the document names is held to it by `check::expect`, which asks for a proof that its
-// test passes.
+// Cases 1 to 10 of document 01, "Tested by hand", and two of our own, on the proved calls and the proved window. Every answer, every record
+// count, every word of a plan and every word of a window's part that the document names is held to it by `check::expect`, which asks for a
+// proof that its test passes. So is the header, which is written and read back.
 ghost use Prim.Native.Nat.{_*_, _≤_};
 ghost use mathlib.Core.Path.{_≡_};
 ghost use mathlib.Core.List.{_++_};
 ghost use lib.ListN.{length, drop};
+ghost use Rattle.lists.specs.Lists.{sameList};
+ghost use Rattle.printing.specs.Printed.{headerMost, headerRow, written};
 ghost use Rattle.rules.specs.Calls.{openAnswer, opened, offerAnswer, offered, heldAnswer, withdrawn, wordsOf, planOf, advanced};
 ghost use Rattle.rules.specs.Reading.{windowAnswer, windowPart};
 ghost use Rattle.rules.specs.WellFormed.{WellFormed};
 ghost use Rattle.refusals.specs.Numbers.{beaconNumber};
 ghost use Rattle.admission.specs.Six.{request};
-ghost use Rattle.expected.specs.Said.{table1};
+ghost use Rattle.expected.specs.Said.{table1, asked, twoHeld, PlanOfTwo};
 ghost use Rattle.expected.specs.Words.{rows, Begins, Records, Each};
 use model::Table;
 use planner::Beaconing;
+
+// ---- the header
+// Compared as a byte string, as verbs are.
+fn is_header(row: &[u8]) -> bool
+    ensures { λ r. ⌜ r ≡ sameList (now (row .entry)) headerRow ⌝ }
+{
+    fields::matches(row, b"row,stream,job,start,length,answer\r\n")
+}
+
+// The row that is written is the one that is read back.
+fn expect_header(out: &mut [u8])
+    requires { ⌜ headerMost ≤ length (now out) ⌝ }
+    ensures { λ r. ⌜ now (out .exit) ≡ written (now (out .entry)) 0 headerRow ⌝ }
+{
+    let end = printing::header_row(out, 0);
+    check::expect(is_header(&out[..end]));
+}
 
 // ---- words
 // These words begin with those.
@@ -80,6 +99,16 @@ fn offer(
     o.table
 }
 
+// A request by its stream, kind, period, min, max and life, which is taken.
+fn taken(t: Table, q: [u32; 6]) -> Table
+    requires { ⌜ WellFormed t ⌝ }
+    requires { ⌜ offerAnswer t (asked q) ≡ 0 ⌝ }
+    ensures is { λ r. ⌜ r ≡ offered t (asked q) ⌝ }
+    ensures formed { λ r. ⌜ WellFormed r ⌝ }
+{
+    offer(t, q[0], q[1], q[2], q[3], q[4], q[5], 0)
+}
+
 fn withdraw(t: Table, stream: u32) -> Table
     requires { ⌜ WellFormed t ⌝ }
     requires { ⌜ heldAnswer t stream ≡ 0 ⌝ }
@@ -115,6 +144,22 @@ fn beacon(t: Table, plan: &mut [u32], records: &[[u32; 4]]) -> Table
     expect_beacon(b, 0, records.len());
     expect_records(plan, records);
     b.table
+}
+
+// The first beacon of a table of one time unit that takes two requests, offered in this order.
+fn plan_of_two(first: [u32; 6], second: [u32; 6], plan: &mut [u32], records: &[[u32; 4]]) -> Table
+    requires { ⌜ 4096 ≤ length (now plan) ⌝ }
+    requires { ⌜ PlanOfTwo first second (now records) ⌝ }
+    ensures is { λ r. ⌜ r ≡ advanced (twoHeld first second) ⌝ }
+    ensures formed { λ r. ⌜ WellFormed r ⌝ }
+    ensures words { λ r.
+        ⌜ now (plan .exit) ≡ wordsOf (planOf (twoHeld first second))
+        ++ drop (4 * length (now (records .entry))) (now (plan .entry)) ⌝ }
+{
+    let t = open(1);
+    let t = taken(t, first);
+    let t = taken(t, second);
+    beacon(t, plan, records)
 }
 
 // With 4,095 words of the plan's memory lent: refused, nothing changes.
@@ -204,11 +249,13 @@ fn case_4() {
 fn case_5(plan: &mut [u32])
     requires { ⌜ 4096 ≤ length (now plan) ⌝ }
 {
-    let t = open(1);
-    let t = offer(t, 1, 2, 2, 1024, 1024, 2, 0);
-    let t = offer(t, 2, 2, 2, 1024, 1024, 2, 0);
     let records = [[1u32, 0, 0, 1024]];
-    let t = beacon(t, plan, &records);
+    let t = plan_of_two(
+        [1, 2, 2, 1024, 1024, 2],
+        [2, 2, 2, 1024, 1024, 2],
+        plan,
+        &records,
+    );
     let t = withdraw(t, 1);
     offer(t, 3, 2, 1, 1, 1, 1, 17);
 }
@@ -264,7 +311,25 @@ fn case_10_empty(plan: &mut [u32])
     beacon(t, plan, &[]);
 }
 
+// Not the document's. Of two jobs of kind 1 due at once the lower stream number goes first, though it was offered later. With as many
+// intervals left a whole stream goes before a transfer, though the transfer has the lower stream number.
+fn two_of_our_own(plan: &mut [u32])
+    requires { ⌜ 4096 ≤ length (now plan) ⌝ }
+{
+    let ties = [
+        [6u32, 0, 0, 100],
+        [8, 0, 100, 200],
+        [6, 1, 512, 100],
+        [8, 1, 612, 200],
+    ];
+    plan_of_two([8, 1, 2, 200, 200, 1], [6, 1, 2, 100, 100, 1], plan, &ties);
+    let kinds = [[4u32, 0, 0, 800], [2, 0, 800, 224]];
+    plan_of_two([2, 3, 2, 700, 0, 2], [4, 2, 2, 800, 800, 2], plan, &kinds);
+}
+
 fn main() {
+    let mut row = [0u8; 64];
+    expect_header(&mut row);
     let mut plan = [0u32; 4096];
     cases_1_to_3(&mut plan);
     case_4();
@@ -276,5 +341,9 @@ fn main() {
     let mut lent = [77777u32; 4096];
     case_10(&mut lent);
     case_10_empty(&mut plan);
-    io::write_all(1, b"cases 1 to 10: as expected\n");
+    two_of_our_own(&mut plan);
+    io::write_all(
+        1,
+        b"header, cases 1 to 10 and two of our own: as expected\n",
+    );
 }

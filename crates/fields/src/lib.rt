@@ -1,6 +1,7 @@
-// The fields of a row as numbers. Document 01, "Reading, lending, printing".
+// The fields of a row as byte strings and as numbers. Document 01, "Reading, lending, printing".
 ghost use mathlib.Core.Bool.{true};
 ghost use mathlib.Core.Path.{_≡_};
+ghost use Rattle.lists.specs.Lists.{sameList};
 ghost use Rattle.text.specs.FieldLaws.{toComma, fieldsAfter};
 ghost use Rattle.fields.specs.FieldReads.{fieldRead, fieldsRead};
 
@@ -23,6 +24,13 @@ const DIGIT_NINE: u32 = 57;
 const DIGITS_MOST: usize = 10;
 
 const NUMBER_MOST: u64 = 4294967295;
+
+// Whether some bytes are those of a byte string, no more and no fewer: the library's comparison, as an equation.
+pub fn matches(bytes: &[u8], string: &[u8]) -> bool
+    ensures { λ r. ⌜ r ≡ sameList (now (bytes .entry)) (now (string .entry)) ⌝ }
+{
+    check::same(bytes, string)
+}
 
 // Where the first comma stands, or the text's length.
 pub fn first_comma(text: &[u8]) -> usize

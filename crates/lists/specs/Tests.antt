@@ -1,14 +1,15 @@
 -- Tests: what a Boolean value says. Assumes nothing.
-use mathlib.Core.Path.{_≡_, refl, sym, ap, _∙_}
+use mathlib.Core.Path.{_≡_, refl, sym, ap, ap₂, _∙_}
 use mathlib.Core.Logic.{_⊎_, inl, inr}
 use mathlib.Core.Bool.{Bool, true, false, cond, _&&_, _||_, true≢false}
+use mathlib.Core.List.{List, [], _∷_}
 use Prim.Native.Nat.{ℕ, _+_, _≤_, zero-le}
 use native.Mathlib.Nat.{le-refl}
 use native.Mathlib.Decide.{ℕ-discrete}
 use native.Mathlib.Omega.{arith}
 use lib.Dec.{leb, eqb}
-use borrow.Author.Tests.{leb-true, le-leb, eq-eqb, ne-eqb}
-use Rattle.lists.specs.Lists.{within, one-if}
+use borrow.Author.Tests.{leb-true, le-leb, eqb-true, eq-eqb, ne-eqb}
+use Rattle.lists.specs.Lists.{within, one-if, sameList}
 
 pub either : (b : Bool) → (b ≡ true) ⊎ (b ≡ false)
 either true = inl refl
@@ -91,3 +92,19 @@ eqb-sym x y =
       | yes e ↦ eq-eqb x y e ∙ sym (eq-eqb y x (sym e))
       | no n ↦ ne-eqb x y n ∙ sym (ne-eqb y x (λ e. n (sym e)))
     ]
+
+-- ---- the test on two lists says whether they are equal
+pub same-list : (xs ys : List ℕ) → sameList xs ys ≡ true → xs ≡ ys
+same-list [] [] h = refl
+same-list [] (y ∷ ys) h = absurd (clash false h refl)
+same-list (x ∷ xs) [] h = absurd (clash false h refl)
+same-list (x ∷ xs) (y ∷ ys) h =
+    let b = and-both (eqb x y) (sameList xs ys) h in ap₂ _∷_ (eqb-true x y (b .0)) (same-list xs ys (b .1))
+
+pub list-same : (xs : List ℕ) → sameList xs xs ≡ true
+list-same [] = refl
+list-same (x ∷ xs) = both-and (eqb x x) (sameList xs xs) (eqb-refl x) (list-same xs)
+
+pub tells-same : (r : Bool) (xs ys : List ℕ) → (r ≡ true → xs ≡ ys) × (xs ≡ ys → r ≡ true) → r ≡ sameList xs ys
+tells-same r xs ys h =
+    same-test r (sameList xs ys) (λ t. rw (h .0 t) (list-same ys)) (λ t. h .1 (same-list xs ys t))

@@ -5,6 +5,12 @@ use borrow.Author.Needs.{needs}
 use Rattle.expected.proofs.main.Statement.{statement}
 use Rattle.expected.proofs.main.Tie as tie
 
+slice-aggregate-expect-header : tie.Need-slice-aggregate-expect-header
+slice-aggregate-expect-header c = search needs
+
+expect-header-requires : tie.Need-expect-header-requires
+expect-header-requires c κs = search needs
+
 slice-aggregate-cases-1-to-3 : tie.Need-slice-aggregate-cases-1-to-3
 slice-aggregate-cases-1-to-3 c = search needs
 
@@ -47,6 +53,12 @@ slice-aggregate-case-10-empty c = search needs
 case-10-empty-requires : tie.Need-case-10-empty-requires
 case-10-empty-requires c κs = search needs
 
+slice-aggregate-two-of-our-own : tie.Need-slice-aggregate-two-of-our-own
+slice-aggregate-two-of-our-own c = search needs
+
+two-of-our-own-requires : tie.Need-two-of-our-own-requires
+two-of-our-own-requires c κs = search needs
+
 slice-aggregate-write-all : tie.Need-slice-aggregate-write-all
 slice-aggregate-write-all c = search needs
 
@@ -60,6 +72,8 @@ pub main-spec : {M : Type 1} → statement M
 main-spec =
     tie.close
     (tie.spec
+    slice-aggregate-expect-header
+    expect-header-requires
     slice-aggregate-cases-1-to-3
     cases-1-to-3-requires
     case-4-requires
@@ -74,6 +88,8 @@ main-spec =
     case-10-requires
     slice-aggregate-case-10-empty
     case-10-empty-requires
+    slice-aggregate-two-of-our-own
+    two-of-our-own-requires
     slice-aggregate-write-all
     write-all-requires
     returns)
