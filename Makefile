@@ -3,9 +3,21 @@ SHELL := /bin/bash
 .SHELLFLAGS := -o pipefail -c
 .PHONY: show test reference compared archive bindings failures bench fuzz lists cost picture
 
-# Prove what the program rests on (quickly, where nothing has changed), and run it on a school's day.
+# Proves a crate and what it rests on: a line for each crate that is proved anew, and the start of what is wrong with one that is not. All on
+# standard error, so that standard output has what a command is asked for and no more.
+define prove
+@echo "proving $(1) and what it rests on: about five minutes the first time, on two cores, and seconds where nothing changed" >&2
+@rt check $(1) | while IFS= read -r line; do case $$line in \
+    'rt: '*'(unchanged since it was last proved)') ;; \
+    'rt: '*' NOT PROVED (exit '*) echo "$$line"; set -- $$line; \
+        grep -v '^rt: \|^library \|^logic\|: proved$$' target/log/$$2.out | cut -c -400 | head -n 20 | sed 's/^/    /' ;; \
+    'rt: '*) echo "$$line" ;; \
+    esac; done >&2
+endef
+
+# Runs the proved program on a school's day.
 show:
-	@rt check shelf > /dev/null
+	$(call prove,shelf)
 	@target/bin/shelf < reference/data/school.in
 
 # The gate: layout, the second implementation's own tests and its stored rows, the stored pictures; then every proof from nothing, every
@@ -37,26 +49,28 @@ lists:
 	@cat reference/data/*.in > crates/shelf/stdin
 	@reference/target/release/shelf-reference < crates/shelf/stdin > crates/shelf/stdout
 
-# Draws the README's picture: the first plan of the school's day, from its stored rows.
+# Draws the README's picture from the stored rows of a school's day: the plan of beacon 22, which has requests of all three kinds.
 picture:
 	@cargo build --offline --release --quiet --manifest-path picture/Cargo.toml
 	@mkdir -p target
-	@picture/target/release/plan-picture --calls reference/data/school.in < reference/data/school.out > target/plan.svg
+	@picture/target/release/plan-picture --calls reference/data/school.in --beacon 22 < reference/data/school.out > target/plan.svg
 	@mv target/plan.svg docs/plan.svg
 
 # Compares the program with the second implementation on fresh rows, legal and damaged, at once and in packets of 1 to 4,096 bytes.
 ROWS ?= 200000
 SEED ?=
 fuzz:
-	@rt check shelf > /dev/null
+	$(call prove,shelf)
+	@echo "comparing with the second implementation on at least $(ROWS) fresh rows" >&2
 	@cargo run --offline --release --quiet --manifest-path compare/Cargo.toml -- target/bin/shelf $(ROWS) $(SEED)
 
 # The proved calls as a library for other languages.
 archive:
-	@mkdir -p target
-	@rt staticlib host > target/staticlib.log || (cat target/staticlib.log && false)
+	$(call prove,host)
+	@rt staticlib host > target/log/staticlib.out 2>&1 || (tail -n 20 target/log/staticlib.out >&2 && false)
 
-# The exported calls: case 1 from C, held to its stored rows, and random calls from C and from Rust, held to the second implementation.
+# The exported calls: case 1 from C, held to its stored rows; random calls from C and from Rust, held to the second implementation; and the
+# README's program in Rust.
 bindings: archive
 	@for program in case1 calls; do cc -std=c11 -Wall -Wextra -Werror -O2 -Ibindings/c -o target/$$program bindings/c/$$program.c \
 	    target/staticlib/libhost.a || exit 1; done
@@ -68,12 +82,12 @@ failures:
 	@cargo test --offline --release --quiet --manifest-path compare/Cargo.toml --test failures -- --ignored
 
 # The calls measured beside the second implementation and the published procedure: the tables of docs/PERFORMANCE.md, and its plots anew.
-# Takes about two minutes (valgrind's callgrind).
 bench: archive
+	@echo "measuring under valgrind's callgrind: about two minutes; writes the plots docs/growth-*.svg anew" >&2
 	@cargo run --offline --release --quiet --manifest-path bench/Cargo.toml --features ours -- all docs
 
 # Instructions that four beacons on the same 32 requests cost, first at 15 time units, then at 1,000 (valgrind's callgrind).
 cost:
-	@rt check cost
+	$(call prove,cost)
 	@out=$$(mktemp -d) && valgrind -q --tool=callgrind --callgrind-out-file=$$out/cg --zero-before='cost::four_beacons' \
 	    --dump-after='cost::four_beacons' target/bin/cost > /dev/null && grep -h '^summary' $$out/cg.1 $$out/cg.2 && rm -r $$out
