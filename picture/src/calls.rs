@@ -2,8 +2,9 @@
 
 use std::collections::BTreeMap;
 
-use crate::answers::{Answer, Verb};
-use crate::plan::{Kind, MOST_HELD, Request, SLOTS_IN_UNIT, Table, UNITS};
+use crate::answers::{Answer, Record, Verb};
+use crate::plan::{SLOTS_IN_UNIT, UNITS};
+use crate::requests::{MOST_HELD, Request, Table};
 use crate::rows::{Row, cut};
 
 /// The table that an accepted beacon, counted from 1, finds. Every call must have its answer, since calls of another run would
@@ -50,7 +51,7 @@ fn advance(table: &mut Option<Table>, call: &Row, answer: &Answer) -> Result<(),
         Verb::Offer => hold(table, call, stream, fields),
         Verb::Withdraw => withdraw(table, call, stream),
         _ => {
-            count_down(table);
+            pass(table, &answer.records);
             Ok(())
         }
     }
@@ -77,12 +78,12 @@ fn opened(call: &Row, units: &[u8]) -> Result<Table, String> {
 
 /// Adds an accepted offer.
 fn hold(table: &mut Table, call: &Row, stream: u64, fields: [&[u8]; 7]) -> Result<(), String> {
-    let kind = call.number_in("kind", fields[2])?;
-    let period = call.number_in("period", fields[3])?;
-    let life_left = call.number_in("life", fields[6])?;
-    let kind = Kind::of(kind, period, table.interval)
-        .ok_or_else(|| call.fault(format!("kind {kind} with period {period} was accepted")))?;
-    if table.held.insert(stream, Request { kind, life_left }).is_some() {
+    let mut numbers = [0; 5];
+    for (i, name) in ["kind", "period", "min", "max", "life"].into_iter().enumerate() {
+        numbers[i] = call.number_in(name, fields[i + 2])?;
+    }
+    let request = Request::admitted(numbers, table.interval).map_err(|what| call.fault(what))?;
+    if table.held.insert(stream, request).is_some() {
         return Err(call.fault(format!("stream {stream} was accepted twice")));
     }
     match table.held.len() > MOST_HELD {
@@ -97,10 +98,11 @@ fn withdraw(table: &mut Table, call: &Row, stream: u64) -> Result<(), String> {
     gone.map(|_| ()).ok_or_else(|| call.fault(format!("stream {stream} was withdrawn, but is not held")))
 }
 
-/// An interval passes: requests at the end of their life leave.
-fn count_down(table: &mut Table) {
-    for request in table.held.values_mut() {
-        request.life_left = request.life_left.saturating_sub(1);
+/// An interval passes with its plan: requests at the end of their life leave.
+fn pass(table: &mut Table, records: &[Record]) {
+    for (stream, request) in &mut table.held {
+        request
+            .pass(records.iter().filter(|record| record.stream == *stream).map(|record| record.length).sum());
     }
     table.held.retain(|_, request| request.life_left > 0);
 }
@@ -123,13 +125,16 @@ mod tests {
         assert_eq!(table(calls, answers, 1).unwrap_err(), format!("calls{message}"));
     }
 
-    const CALLS: &str = "nonsense\nopen,2,,,,,\noffer,5,1,4,1,1,2\noffer,6,2,3,1,1,3\noffer,6,3,1,1,0,1\nbeacon,,,,,,\n\
-        withdraw,6,,,,,\noffer,7,3,1,1,0,1\nbeacon,,,,,,\nbeacon,,,,,,";
+    const CALLS: &str = "nonsense\nopen,2,,,,,\noffer,5,1,4,1,1,2\noffer,6,2,3,5,9,3\noffer,6,3,1,1,0,1\nbeacon,,,,,,\n\
+        offer,7,3,1,1,0,1\nbeacon,,,,,,\nwithdraw,6,,,,,\nbeacon,,,,,,";
     const ANSWERS: &str = "row,,,,,50\nopen,,,,,0\noffer,5,,,,0\noffer,6,,,,0\noffer,6,,,,11\nbeacon,,,,,0\n\
-        withdraw,6,,,,0\noffer,7,,,,0\nbeacon,,,,,0\nbeacon,,,,,0\n";
+        slot,5,0,0,1,\nslot,6,0,1,3,\nslot,6,0,9,5,\noffer,7,,,,0\nbeacon,,,,,0\nwithdraw,6,,,,0\nbeacon,,,,,0\n";
 
-    fn request(kind: Kind, life_left: u64) -> Request {
-        Request { kind, life_left }
+    /// An admitted request after intervals that gave it so many slots.
+    fn request(fields: [u64; 5], slots: &[u64]) -> Request {
+        let mut request = Request::admitted(fields, 2_048).unwrap();
+        slots.iter().for_each(|&slots| request.pass(slots));
+        request
     }
 
     #[test]
@@ -137,9 +142,17 @@ mod tests {
         let first = table(CALLS, ANSWERS, 1).unwrap();
         assert_eq!(first.interval, 2_048);
         let held: Vec<(u64, Request)> = first.held.into_iter().collect();
-        assert_eq!(held, [(5, request(Kind::Fraction(4), 2)), (6, request(Kind::Whole(3), 3))]);
+        assert_eq!(held, [(5, request([1, 4, 1, 1, 2], &[])), (6, request([2, 3, 5, 9, 3], &[]))]);
         let second: Vec<(u64, Request)> = table(CALLS, ANSWERS, 2).unwrap().held.into_iter().collect();
-        assert_eq!(second, [(5, request(Kind::Fraction(4), 1)), (7, request(Kind::Transfer, 1))]);
+        assert_eq!(
+            second,
+            [
+                (5, request([1, 4, 1, 1, 2], &[4])),
+                (6, request([2, 3, 5, 9, 3], &[8])),
+                (7, request([3, 1, 1, 0, 1], &[]))
+            ]
+        );
+        assert_eq!(second[1].1.had, 8);
         assert_eq!(table(CALLS, ANSWERS, 3).unwrap().held.len(), 0);
     }
 
@@ -182,11 +195,11 @@ mod tests {
         };
         offer("offer,6,1,2,1,1,1", "stream 6, but its answer has stream 5");
         offer("offer,5,4,2,1,1,1", "kind 4 with period 2 was accepted");
-        offer("offer,5,1,3,1,1,1", "kind 1 with period 3 was accepted");
-        offer("offer,5,1,17,1,1,1", "kind 1 with period 17 was accepted");
-        offer("offer,5,1,0,1,1,1", "kind 1 with period 0 was accepted");
-        offer("offer,5,2,256,1,1,1", "kind 2 with period 256 was accepted");
+        offer("offer,5,1,2,2,1,1", "minimum 2 with maximum 1 was accepted");
+        offer("offer,5,3,2,1,0,1", "life 1 with period 2 was accepted");
         offer("offer,5,1,,1,1,1", "period is no number: ''");
+        offer("offer,5,1,2,,1,1", "min is no number: ''");
+        offer("offer,5,1,2,1,x,1", "max is no number: 'x'");
         offer("offer,5,1,2,1,1,", "life is no number: ''");
     }
 

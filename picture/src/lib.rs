@@ -3,8 +3,9 @@
 //! - [`rows`]: a file cut into rows, fields and numbers.
 //! - [`answers`]: the rows that `shelf` prints.
 //! - [`calls`]: the rows that `shelf` reads, for what the answers alone do not say.
+//! - [`requests`]: what is held, and what its running periods have had.
 //! - [`plan`]: one beacon's plan, checked and put into lanes.
-//! - [`svg`]: the picture; `words` has what it says.
+//! - [`svg`]: the picture, on a `page`, with a `gauge` for each stream; `words` has what it says.
 //! - [`options`]: the command line.
 
 #![forbid(unsafe_code)]
@@ -12,8 +13,11 @@
 
 pub mod answers;
 pub mod calls;
+mod gauge;
 pub mod options;
+mod page;
 pub mod plan;
+pub mod requests;
 pub mod rows;
 pub mod svg;
 mod words;

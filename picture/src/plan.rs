@@ -4,68 +4,16 @@ use std::collections::BTreeMap;
 use std::ops::RangeInclusive;
 
 use crate::answers::Record;
+use crate::requests::{MOST_HELD, PARTS, Request, Table};
 use crate::rows::fault;
 
 /// The slots of a time unit.
 pub const SLOTS_IN_UNIT: u64 = 1_024;
 /// The time units of an interval.
 pub const UNITS: RangeInclusive<u64> = 1..=1_000;
-/// The most requests that are held at a time, so the most streams of a plan.
-pub const MOST_HELD: usize = 32;
 
 const LONGEST_INTERVAL: u64 = *UNITS.end() * SLOTS_IN_UNIT;
 const STREAMS: RangeInclusive<u64> = 1..=65_535;
-const PARTS: RangeInclusive<u64> = 2..=16;
-const WHOLE_PERIODS: RangeInclusive<u64> = 1..=255;
-
-/// A request's kind, with its period.
-#[derive(Clone, Copy, Debug, PartialEq, Eq)]
-pub enum Kind {
-    /// Kind 1: so much in each of so many parts of an interval.
-    Fraction(u64),
-    /// Kind 2: so much in every period of so many intervals.
-    Whole(u64),
-    /// Kind 3: so much once. Its life ends with its deadline.
-    Transfer,
-}
-
-impl Kind {
-    /// The kind of a number and a period, if `shelf` takes them.
-    pub fn of(kind: u64, period: u64, interval: u64) -> Option<Kind> {
-        match kind {
-            1 if PARTS.contains(&period) && interval.is_multiple_of(period) => Some(Kind::Fraction(period)),
-            2 if WHOLE_PERIODS.contains(&period) => Some(Kind::Whole(period)),
-            3 => Some(Kind::Transfer),
-            _ => None,
-        }
-    }
-
-    /// The number of jobs in an interval.
-    fn jobs(self) -> u64 {
-        match self {
-            Kind::Fraction(parts) => parts,
-            Kind::Whole(_) | Kind::Transfer => 1,
-        }
-    }
-}
-
-/// A held request.
-#[derive(Clone, Debug, PartialEq, Eq)]
-pub struct Request {
-    /// Its kind and period.
-    pub kind: Kind,
-    /// The intervals that it still lasts, the coming one included.
-    pub life_left: u64,
-}
-
-/// What a beacon finds.
-#[derive(Clone, Debug)]
-pub struct Table {
-    /// The interval's length in slots.
-    pub interval: u64,
-    /// The held requests by stream.
-    pub held: BTreeMap<u64, Request>,
-}
 
 /// What is known of the interval besides the plan's records.
 pub enum Known {
@@ -85,6 +33,18 @@ pub struct Lane {
     pub request: Option<Request>,
     /// Its records, by start.
     pub records: Vec<Record>,
+}
+
+impl Lane {
+    /// The least and the most slots that a running period has had, this interval included. Kind 1 has several periods in an interval, the
+    /// others one; where the calls are not known, nothing is.
+    pub fn had(&self) -> Option<[u64; 2]> {
+        let request = self.request.as_ref()?;
+        let slots_of =
+            |job| self.records.iter().filter(|record| record.job == job).map(|record| record.length).sum();
+        let slots: Vec<u64> = (0..request.kind.jobs()).map(slots_of).collect();
+        Some([slots.iter().min()?, slots.iter().max()?].map(|slots| request.had + slots))
+    }
 }
 
 /// A run of slots that no record has.
@@ -256,10 +216,11 @@ mod tests {
     }
 
     fn table() -> Known {
-        let held = BTreeMap::from([
-            (4, Request { kind: Kind::Transfer, life_left: 2 }),
-            (5, Request { kind: Kind::Fraction(2), life_left: 1 }),
-        ]);
+        let request = |fields| Request::admitted(fields, 1_024).unwrap();
+        let mut whole = request([2, 3, 1, 9, 3]);
+        whole.pass(7);
+        let held =
+            BTreeMap::from([(4, request([3, 2, 90, 0, 2])), (5, request([1, 2, 1, 9, 1])), (7, whole)]);
         Known::Table(Table { interval: 1_024, held })
     }
 
@@ -278,7 +239,19 @@ mod tests {
         let plan = Plan::new(1, &records(&[[5, 1, 512, 3]]), table()).unwrap();
         let lanes: Vec<(u64, usize)> =
             plan.lanes.iter().map(|lane| (lane.stream, lane.records.len())).collect();
-        assert_eq!(lanes, [(4, 0), (5, 1)]);
+        assert_eq!(lanes, [(4, 0), (5, 1), (7, 0)]);
+    }
+
+    #[test]
+    fn a_period_has_had_its_slots_of_this_interval_too() {
+        let had = |numbers: &[[u64; 4]], known| -> Vec<Option<[u64; 2]>> {
+            Plan::new(1, &records(numbers), known).unwrap().lanes.iter().map(Lane::had).collect()
+        };
+        assert_eq!(had(&[], table()), [Some([0, 0]), Some([0, 0]), Some([7, 7])]);
+        let plan =
+            [[5, 0, 0, 3], [4, 0, 3, 50], [5, 0, 53, 1], [7, 0, 60, 2], [5, 1, 512, 3], [4, 0, 515, 1]];
+        assert_eq!(had(&plan, table()), [Some([51, 51]), Some([3, 4]), Some([9, 9])]);
+        assert_eq!(had(&[[5, 0, 0, 3]], Known::Length(1_024)), [None]);
     }
 
     #[test]

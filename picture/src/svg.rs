@@ -1,24 +1,20 @@
-//! The picture: a lane for each stream, one for idle time, and an axis of slots.
+//! The picture: a lane for each stream, one for idle time, an axis of slots, and a gauge of what each stream has had.
 //!
-//! All coordinates are whole hundredths of a pixel, so that the same plan gives the same bytes on every machine. Shades differ in
-//! lightness and every bar has an outline, so that a grey print says the same.
+//! Shades differ in lightness and every bar has an outline, so that a grey print says the same.
 
-use std::fmt::{self, Display, Write};
+use std::fmt::Display;
 
-use crate::plan::{Idle, Kind, Lane, Plan};
+use crate::gauge;
+use crate::page::{Layout, MARGIN, Page, Px, STREAM_COLUMN, WIDTH, px};
+use crate::plan::{Idle, Lane, Plan};
+use crate::requests::Kind;
 use crate::words;
 
-/// The width fits A4 and Letter paper at 96 pixels for an inch. So does the height of 32 lanes.
-const WIDTH: u64 = 680;
-/// Where the slots end; half of the last tick's label stands to the right.
-const RIGHT: u64 = 650;
-const TOP: u64 = 66;
+const TOP: u64 = 80;
 const LANE_HEIGHT: u64 = 20;
 /// What a lane leaves above and below its bars, so that the ends of a period's ticks stick out.
 const INSET: u64 = 3;
-const BELOW_LANES: u64 = 86;
-const STREAM_COLUMN: u64 = 52;
-const PERIOD_COLUMN: u64 = 126;
+const BELOW_LANES: u64 = 120;
 
 /// The fills by kind, from light to dark, and that of jobs whose kind is not known.
 const FRACTION: &str = "#fff2cc";
@@ -27,77 +23,26 @@ const TRANSFER: &str = "#c8743c";
 const UNKNOWN: &str = "#dddddd";
 const IDLE: &str = "url(#hatch)";
 
-/// A length in hundredths of a pixel.
-#[derive(Clone, Copy, PartialEq, Eq, PartialOrd, Ord)]
-struct Px(u64);
-
 /// The narrowest bar: a record of one slot is seen, whatever the scale.
 const NARROWEST: Px = Px(60);
 /// The room of a digit in a bar, and that at both sides of a number.
 const DIGIT: u64 = 640;
 const ASIDE: u64 = 400;
 
-impl Display for Px {
-    fn fmt(&self, formatter: &mut fmt::Formatter) -> fmt::Result {
-        write!(formatter, "{}.{:02}", self.0 / 100, self.0 % 100)
-    }
-}
-
-/// Where slots lie on the page.
-struct Scale {
-    left: u64,
-    end: u64,
-}
-
-impl Scale {
-    fn of(plan: &Plan) -> Scale {
-        Scale { left: if plan.has_requests { PERIOD_COLUMN + 10 } else { STREAM_COLUMN + 10 }, end: plan.end }
-    }
-
-    /// The left edge of a slot.
-    fn x(&self, slot: u64) -> Px {
-        Px(self.left * 100 + slot * (RIGHT - self.left) * 100 / self.end)
-    }
-}
-
-/// A picture under construction. Writing to a string cannot fail, so the results of `write!` are dropped here, once.
-struct Page {
-    text: String,
-}
-
-impl Page {
-    fn add(&mut self, line: fmt::Arguments) {
-        let _ = self.text.write_fmt(line);
-        self.text.push('\n');
-    }
-
-    fn line(&mut self, [x1, y1, x2, y2]: [Px; 4], stroke: &str) {
-        self.add(format_args!("<line x1=\"{x1}\" y1=\"{y1}\" x2=\"{x2}\" y2=\"{y2}\" {stroke}/>"));
-    }
-
-    fn text(&mut self, x: Px, y: Px, anchor: &str, words: impl Display) {
-        self.add(format_args!("<text x=\"{x}\" y=\"{y}\" text-anchor=\"{anchor}\">{words}</text>"));
-    }
-}
-
-fn px(whole: u64) -> Px {
-    Px(whole * 100)
-}
-
 /// The plan as an SVG document.
 pub fn drawn(plan: &Plan) -> String {
-    let scale = Scale::of(plan);
+    let layout = Layout::of(plan);
     let bottom = TOP + (plan.lanes.len() as u64 + 1) * LANE_HEIGHT;
-    let mut page = Page { text: String::new() };
+    let mut page = Page::default();
     open(&mut page, plan, bottom + BELOW_LANES);
-    heading(&mut page, plan);
-    grid(&mut page, &scale, bottom);
+    heading(&mut page, plan, &layout);
+    grid(&mut page, &layout, bottom);
     let tops = (TOP..).step_by(LANE_HEIGHT as usize);
     for (lane, top) in plan.lanes.iter().zip(tops) {
-        stream_lane(&mut page, &scale, lane, top);
+        stream_lane(&mut page, &layout, lane, top);
     }
-    idle_lane(&mut page, &scale, &plan.idle, bottom - LANE_HEIGHT);
-    axis(&mut page, &scale, bottom);
+    idle_lane(&mut page, &layout, &plan.idle, bottom - LANE_HEIGHT);
+    axis(&mut page, &layout, bottom);
     legend(&mut page, plan, bottom + 52);
     page.add(format_args!("</g>\n</svg>"));
     page.text
@@ -121,42 +66,34 @@ fn open(page: &mut Page, plan: &Plan, height: u64) {
 }
 
 /// The title, what there is in all, and the names of the columns.
-fn heading(page: &mut Page, plan: &Plan) {
+fn heading(page: &mut Page, plan: &Plan, layout: &Layout) {
     page.add(format_args!(
-        "<text x=\"16\" y=\"21\" font-size=\"14\" font-weight=\"bold\">{}</text>",
+        "<text x=\"{MARGIN}\" y=\"21\" font-size=\"14\" font-weight=\"bold\">{}</text>",
         words::title(plan)
     ));
-    page.text(px(16), px(37), "start", words::summary(plan));
+    page.text(px(MARGIN), px(37), "start", words::summary(plan));
     page.text(px(STREAM_COLUMN), px(TOP - 5), "end", "stream");
     if plan.has_requests {
-        page.text(px(PERIOD_COLUMN), px(TOP - 5), "end", "period");
+        page.text(px(layout.period), px(TOP - 5), "end", "period");
+        gauge::heading(page, layout, TOP - 5);
     }
 }
 
-/// The slots that the axis names: eighths of an interval, which are whole numbers of slots.
-fn ticks(end: u64) -> Vec<u64> {
-    let step = end.div_ceil(8).max(1);
-    let mut ticks: Vec<u64> =
-        (0..end).step_by(step as usize).filter(|tick| (end - tick) * 2 >= step).collect();
-    ticks.push(end);
-    ticks
-}
-
 /// Pale lines from the axis up through all lanes.
-fn grid(page: &mut Page, scale: &Scale, bottom: u64) {
-    for tick in ticks(scale.end) {
-        let x = scale.x(tick);
+fn grid(page: &mut Page, layout: &Layout, bottom: u64) {
+    for tick in layout.ticks() {
+        let x = layout.x(tick);
         page.line([x, px(TOP), x, px(bottom)], "stroke=\"#cccccc\" stroke-width=\"0.5\"");
     }
 }
 
 /// The axis with its ticks.
-fn axis(page: &mut Page, scale: &Scale, bottom: u64) {
-    let (left, right) = (scale.x(0), scale.x(scale.end));
+fn axis(page: &mut Page, layout: &Layout, bottom: u64) {
+    let (left, right) = (layout.x(0), layout.x(layout.end));
     let black = "stroke=\"#000000\" stroke-width=\"1\"";
     page.line([left, px(bottom), right, px(bottom)], black);
-    for tick in ticks(scale.end) {
-        let x = scale.x(tick);
+    for tick in layout.ticks() {
+        let x = layout.x(tick);
         page.line([x, px(bottom), x, px(bottom + 5)], black);
         page.text(x, px(bottom + 16), "middle", words::grouped(tick));
     }
@@ -172,24 +109,25 @@ fn axis(page: &mut Page, scale: &Scale, bottom: u64) {
 fn lane_name(page: &mut Page, name: impl Display, top: u64) {
     page.text(px(STREAM_COLUMN), px(top + 14), "end", name);
     let under = px(top + LANE_HEIGHT);
-    page.line([px(16), under, px(RIGHT), under], "stroke=\"#cccccc\" stroke-width=\"0.5\"");
+    page.line([px(MARGIN), under, px(WIDTH - MARGIN), under], "stroke=\"#cccccc\" stroke-width=\"0.5\"");
 }
 
-/// A stream's lane: its name, the ticks of its periods, its jobs.
-fn stream_lane(page: &mut Page, scale: &Scale, lane: &Lane, top: u64) {
+/// A stream's lane: its name, the ticks of its periods, its jobs, its gauge.
+fn stream_lane(page: &mut Page, layout: &Layout, lane: &Lane, top: u64) {
     lane_name(page, lane.stream, top);
     if let Some(request) = &lane.request {
-        page.text(px(PERIOD_COLUMN), px(top + 14), "end", words::period(request));
+        page.text(px(layout.period), px(top + 14), "end", words::period(request));
         if let Kind::Fraction(parts) = request.kind {
-            period_ticks(page, scale, parts, top);
+            period_ticks(page, layout, parts, top);
         }
     }
     let fill = fill_of(lane.request.as_ref().map(|request| request.kind));
     for record in &lane.records {
         let what = format!("stream {}, job {}", record.stream, record.job);
-        bar(page, scale, [record.start, record.end()], top, fill, &what);
+        bar(page, layout, [record.start, record.end()], top, fill, &what);
     }
-    job_numbers(page, scale, lane, top);
+    job_numbers(page, layout, lane, top);
+    gauge::lane(page, layout, lane, top, fill);
 }
 
 fn fill_of(kind: Option<Kind>) -> &'static str {
@@ -202,9 +140,9 @@ fn fill_of(kind: Option<Kind>) -> &'static str {
 }
 
 /// A tick at each bound of the interval's parts.
-fn period_ticks(page: &mut Page, scale: &Scale, parts: u64, top: u64) {
+fn period_ticks(page: &mut Page, layout: &Layout, parts: u64, top: u64) {
     for part in 0..=parts {
-        let x = scale.x(scale.end / parts * part);
+        let x = layout.x(layout.end / parts * part);
         page.line([x, px(top), x, px(top + LANE_HEIGHT)], PERIOD_TICK);
     }
 }
@@ -213,9 +151,9 @@ fn period_ticks(page: &mut Page, scale: &Scale, parts: u64, top: u64) {
 const PERIOD_TICK: &str = "stroke=\"#000000\" stroke-width=\"1\" stroke-dasharray=\"2.5 2.5\"";
 
 /// The bar of a run of slots. Its own title says in words what it is.
-fn bar(page: &mut Page, scale: &Scale, [start, end]: [u64; 2], top: u64, fill: &str, what: &str) {
-    let x = scale.x(start);
-    let width = Px(scale.x(end).0 - x.0).max(NARROWEST);
+fn bar(page: &mut Page, layout: &Layout, [start, end]: [u64; 2], top: u64, fill: &str, what: &str) {
+    let x = layout.x(start);
+    let width = Px(layout.x(end).0 - x.0).max(NARROWEST);
     let (y, height, last) = (top + INSET, LANE_HEIGHT - 2 * INSET, end - 1);
     page.add(format_args!(
         "<rect x=\"{x}\" y=\"{y}\" width=\"{width}\" height=\"{height}\" fill=\"{fill}\" stroke=\"#000000\" stroke-width=\"0.8\">\
@@ -224,40 +162,43 @@ fn bar(page: &mut Page, scale: &Scale, [start, end]: [u64; 2], top: u64, fill: &
 }
 
 /// The number of each job in its bar or, where that is too narrow, beside it; where neither has room, none.
-fn job_numbers(page: &mut Page, scale: &Scale, lane: &Lane, top: u64) {
+fn job_numbers(page: &mut Page, layout: &Layout, lane: &Lane, top: u64) {
     for (i, record) in lane.records.iter().enumerate() {
-        let (start, end) = (scale.x(record.start), scale.x(record.end()).0);
+        let (start, end) = (layout.x(record.start), layout.x(record.end()).0);
         let side = Px(end.max(start.0 + NARROWEST.0) + ASIDE / 2);
         let digits = record.job.to_string().len() as u64;
         let baseline = Px(top * 100 + 1_370);
         if end - start.0 >= digits * DIGIT + ASIDE {
             page.text(Px((start.0 + end) / 2), baseline, "middle", record.job);
-        } else if side.0 + digits * DIGIT <= scale.x(free_until(lane, i, scale.end)).0 {
+        } else if side.0 + digits * DIGIT + ASIDE / 2 <= layout.x(free_until(layout, lane, i)).0 {
             page.text(side, baseline, "start", record.job);
         }
     }
 }
 
-/// Where the free room after a record ends: at the lane's next record or tick.
-fn free_until(lane: &Lane, i: usize, end: u64) -> u64 {
-    let next = lane.records.get(i + 1).map_or(end, |next| next.start);
-    match lane.request.as_ref().map(|request| request.kind) {
-        Some(Kind::Fraction(parts)) => next.min(lane.records[i].end().next_multiple_of(end / parts)),
-        _ => next,
-    }
+/// Where the free room after a record ends: at the lane's next record, or at a line across the lane.
+fn free_until(layout: &Layout, lane: &Lane, i: usize) -> u64 {
+    let end = lane.records[i].end();
+    let record = lane.records.get(i + 1).map_or(layout.end, |next| next.start);
+    let tick = layout.ticks().into_iter().find(|&tick| tick >= end).unwrap_or(layout.end);
+    let bound = match lane.request.as_ref().map(|request| request.kind) {
+        Some(Kind::Fraction(parts)) => end.next_multiple_of(layout.end / parts),
+        _ => layout.end,
+    };
+    record.min(tick).min(bound)
 }
 
 /// The lane of slots that no record has.
-fn idle_lane(page: &mut Page, scale: &Scale, idle: &[Idle], top: u64) {
+fn idle_lane(page: &mut Page, layout: &Layout, idle: &[Idle], top: u64) {
     lane_name(page, "idle", top);
     for run in idle {
-        bar(page, scale, [run.start, run.end], top, IDLE, "idle");
+        bar(page, layout, [run.start, run.end], top, IDLE, "idle");
     }
 }
 
 /// What fills and ticks mean.
 fn legend(page: &mut Page, plan: &Plan, top: u64) {
-    let mut x = 16;
+    let mut x = MARGIN;
     let fills: &[(&str, &str)] = match plan.has_requests {
         true => &[
             (FRACTION, "kind 1, fraction stream"),
@@ -277,7 +218,11 @@ fn legend(page: &mut Page, plan: &Plan, top: u64) {
         page.line([middle, px(top - 2), middle, px(top + 12)], PERIOD_TICK);
         legend_text(page, x, top, "bound of a kind 1 period");
     }
-    page.text(px(16), px(top + 25), "start", words::notes(plan));
+    gauge::legend(page, plan, top + 20, UNKNOWN);
+    let notes_top = if plan.has_requests { top + 46 } else { top + 27 };
+    for (note, i) in words::notes(plan).iter().zip(0..) {
+        page.text(px(MARGIN), px(notes_top + i * 14), "start", note);
+    }
 }
 
 /// A meaning beside its swatch; gives back where the next swatch stands.
@@ -290,41 +235,28 @@ fn legend_text(page: &mut Page, x: u64, top: u64, meaning: &str) -> u64 {
 mod tests {
     use super::*;
     use crate::answers::Record;
-    use crate::plan::{Known, Request, Table};
+    use crate::plan::Known;
+    use crate::requests::{Request, Table};
 
-    /// The picture of records of stream, job, start and length in 1,024 slots.
-    fn picture(numbers: &[[u64; 4]], held: Option<(u64, Kind)>) -> String {
+    /// Fields of a request of each kind.
+    const HALVES: [u64; 5] = [1, 2, 100, 300, 4];
+    const QUARTERS: [u64; 5] = [1, 4, 100, 200, 4];
+    const WHOLE_STREAM: [u64; 5] = [2, 4, 100, 300, 4];
+    const LOAN: [u64; 5] = [3, 4, 100, 0, 4];
+
+    /// The picture of records of stream, job, start and length in 1,024 slots. Where a request is given, stream 5 holds it.
+    fn picture(numbers: &[[u64; 4]], held: Option<[u64; 5]>) -> String {
         let record = |&[stream, job, start, length]: &[u64; 4]| Record { row: 2, stream, job, start, length };
         let records: Vec<Record> = numbers.iter().map(record).collect();
-        let known = match held {
-            Some((stream, kind)) => Known::Table(Table {
-                interval: 1_024,
-                held: [(stream, Request { kind, life_left: 2 })].into(),
-            }),
-            None => Known::Length(1_024),
+        let table = |fields| {
+            let request = Request::admitted(fields, 1_024).unwrap();
+            Known::Table(Table { interval: 1_024, held: [(5, request)].into() })
         };
-        drawn(&Plan::new(1, &records, known).unwrap())
+        drawn(&Plan::new(1, &records, held.map_or(Known::Length(1_024), table)).unwrap())
     }
 
     fn count(text: &str, part: &str) -> usize {
         text.matches(part).count()
-    }
-
-    #[test]
-    fn ticks_are_eighths_and_never_crowd_the_end() {
-        assert_eq!(ticks(1_024), [0, 128, 256, 384, 512, 640, 768, 896, 1_024]);
-        assert_eq!(ticks(1_024_000).len(), 9);
-        assert_eq!(ticks(1), [0, 1]);
-        assert_eq!(ticks(9), [0, 2, 4, 6, 8, 9]);
-        assert_eq!(ticks(26), [0, 4, 8, 12, 16, 20, 24, 26]);
-        assert_eq!(ticks(17), [0, 3, 6, 9, 12, 15, 17]);
-    }
-
-    #[test]
-    fn slots_lie_between_the_edges() {
-        let scale = Scale { left: 136, end: 1_024 };
-        let places: Vec<String> = [0, 1, 512, 1_024].iter().map(|&slot| scale.x(slot).to_string()).collect();
-        assert_eq!(places, ["136.00", "136.50", "393.00", "650.00"]);
     }
 
     #[test]
@@ -341,29 +273,54 @@ mod tests {
         assert_eq!(count(&picture(&[[5, 3, 0, 1]], None), "text-anchor=\"start\">3<"), 1);
         assert_eq!(count(&picture(&[[5, 3, 0, 1], [5, 4, 1, 100]], None), ">3<"), 0);
         // The last slot before a period's bound: beside it is the next period.
-        assert_eq!(count(&picture(&[[5, 1, 511, 1]], Some((5, Kind::Fraction(2)))), ">1<"), 0);
-        assert_eq!(count(&picture(&[[5, 1, 512, 1]], Some((5, Kind::Fraction(2)))), ">1<"), 1);
+        assert_eq!(count(&picture(&[[5, 1, 511, 1]], Some(HALVES)), ">1<"), 0);
+        assert_eq!(count(&picture(&[[5, 1, 512, 1]], Some(HALVES)), ">1<"), 1);
+    }
+
+    #[test]
+    fn a_number_beside_its_bar_crosses_no_line() {
+        let number =
+            |start| count(&picture(&[[5, 0, start, 1]], Some(WHOLE_STREAM)), "text-anchor=\"start\">0<");
+        assert_eq!([number(100), number(127), number(128), number(1_023)], [1, 0, 1, 0]);
     }
 
     #[test]
     fn only_a_fraction_stream_has_period_ticks() {
-        let ticks = |kind| count(&picture(&[[5, 0, 0, 1]], Some((5, kind))), "stroke-dasharray");
+        let ticks = |fields| count(&picture(&[[5, 0, 0, 1]], Some(fields)), "stroke-dasharray");
         // One of them is the legend's.
-        assert_eq!(ticks(Kind::Fraction(4)), 5 + 1);
-        assert_eq!(ticks(Kind::Whole(4)), 1);
-        assert_eq!(ticks(Kind::Transfer), 1);
+        assert_eq!(ticks(QUARTERS), 5 + 1);
+        assert_eq!(ticks(WHOLE_STREAM), 1);
+        assert_eq!(ticks(LOAN), 1);
         assert_eq!(count(&picture(&[[5, 0, 0, 1]], None), "stroke-dasharray"), 0);
     }
 
     #[test]
     fn each_kind_has_its_fill() {
-        let fills = |kind, fill| count(&picture(&[[5, 0, 0, 1]], Some((5, kind))), fill);
-        for (kind, fill) in
-            [(Kind::Fraction(2), FRACTION), (Kind::Whole(2), WHOLE), (Kind::Transfer, TRANSFER)]
-        {
-            assert_eq!(fills(kind, fill), 2);
+        for (fields, fill) in [(HALVES, FRACTION), (WHOLE_STREAM, WHOLE), (LOAN, TRANSFER)] {
+            // The bar, the gauge and the legend.
+            assert_eq!(count(&picture(&[[5, 0, 0, 1]], Some(fields)), fill), 3);
         }
         assert_eq!(count(&picture(&[[5, 0, 0, 1]], None), UNKNOWN), 2);
+    }
+
+    #[test]
+    fn a_lane_says_what_its_period_has_had() {
+        let texts = |text: String| -> Vec<String> {
+            let lane = text.split("<g><title>Stream 5").nth(1).unwrap().split("</g>").nth(1).unwrap();
+            lane.split("\"end\">")
+                .skip(1)
+                .take(3)
+                .map(|part| part.split('<').next().unwrap().to_string())
+                .collect()
+        };
+        let plan = [[5, 0, 0, 80], [5, 0, 90, 30]];
+        assert_eq!(texts(picture(&plan, Some(WHOLE_STREAM))), ["110", "100", "300"]);
+        assert_eq!(texts(picture(&plan[..1], Some(LOAN))), ["80", "100", "100"]);
+        assert_eq!(
+            texts(picture(&[plan[0], plan[1], [5, 1, 512, 110]], Some(HALVES))),
+            ["110", "100", "300"]
+        );
+        assert_eq!(count(&picture(&plan, None), "<g><title>"), 0);
     }
 
     #[test]

@@ -1,6 +1,7 @@
 //! What the picture says in words: headings, labels and the text alternative.
 
-use crate::plan::{Kind, Lane, Plan, Request, SLOTS_IN_UNIT};
+use crate::plan::{Lane, Plan, SLOTS_IN_UNIT};
+use crate::requests::{Kind, Request};
 
 /// The picture's title.
 pub fn title(plan: &Plan) -> String {
@@ -26,24 +27,29 @@ pub fn description(plan: &Plan) -> String {
     format!("A timeline with a lane for each stream. {}.{}", summary(plan), lanes.collect::<String>())
 }
 
-fn lane_sentence(lane: &Lane) -> String {
-    let kind = match &lane.request {
-        None => String::new(),
-        Some(request) => format!(", {}", kind_words(request)),
-    };
+/// A lane in a sentence: what it has in this interval, and what its running period has had.
+pub fn lane_sentence(lane: &Lane) -> String {
     let slots = lane.records.iter().map(|record| record.length).sum();
-    format!(
-        "Stream {}{kind}: {} in {}.",
-        lane.stream,
-        count(slots, "slot"),
-        count(lane.records.len() as u64, "record")
-    )
+    let given = format!("{} in {}", count(slots, "slot"), count(lane.records.len() as u64, "record"));
+    match (&lane.request, lane.had()) {
+        (Some(request), Some(slots)) => format!(
+            "Stream {}, {}: {given}; had {}, minimum {}, maximum {}.",
+            lane.stream,
+            kind_words(request),
+            had(slots),
+            grouped(request.min),
+            grouped(request.max)
+        ),
+        _ => format!("Stream {}: {given}.", lane.stream),
+    }
 }
 
 fn kind_words(request: &Request) -> String {
     match request.kind {
         Kind::Fraction(parts) => format!("kind 1 with {parts} periods in the interval"),
-        Kind::Whole(intervals) => format!("kind 2 with a period of {}", count(intervals, "interval")),
+        Kind::Whole(intervals) => {
+            format!("kind 2, interval {} of {intervals} of its period", request.passed + 1)
+        }
         Kind::Transfer => format!("kind 3, due in {}", count(request.life_left, "interval")),
     }
 }
@@ -52,18 +58,27 @@ fn kind_words(request: &Request) -> String {
 pub fn period(request: &Request) -> String {
     match request.kind {
         Kind::Fraction(parts) => format!("1/{parts}"),
-        Kind::Whole(intervals) => intervals.to_string(),
+        Kind::Whole(intervals) => format!("{} of {intervals}", request.passed + 1),
         Kind::Transfer => format!("due in {}", request.life_left),
     }
 }
 
+/// The slots that a running period has had. The periods of a kind 1 stream have the same, or else from the least to the most.
+pub fn had([least, most]: [u64; 2]) -> String {
+    match least == most {
+        true => grouped(least),
+        false => format!("{} to {}", grouped(least), grouped(most)),
+    }
+}
+
 /// What the legend says without a swatch.
-pub fn notes(plan: &Plan) -> &'static str {
+pub fn notes(plan: &Plan) -> &'static [&'static str] {
     match plan.has_requests {
-        true => {
-            "A number in or beside a bar is the job's. Periods, and what is left to a deadline, are counted in intervals."
-        }
-        false => "A number in or beside a bar is the job's.",
+        true => &[
+            "Period, in intervals. Kind 1: 1/4 is a quarter of one. Kind 2: 2 of 5 is the second of five. Kind 3: those left to the deadline.",
+            "Had: by the end of this interval; for kind 1, in each of its periods. A number in or beside a bar is the job's.",
+        ],
+        false => &["A number in or beside a bar is the job's."],
     }
 }
 
@@ -90,6 +105,7 @@ mod tests {
     use super::*;
     use crate::answers::Record;
     use crate::plan::Known;
+    use crate::requests::Table;
 
     #[test]
     fn numbers_are_grouped() {
@@ -99,13 +115,23 @@ mod tests {
 
     #[test]
     fn each_kind_has_its_words() {
-        let of = |kind| Request { kind, life_left: 3 };
-        assert_eq!(period(&of(Kind::Fraction(4))), "1/4");
-        assert_eq!(period(&of(Kind::Whole(5))), "5");
-        assert_eq!(period(&of(Kind::Transfer)), "due in 3");
-        assert_eq!(kind_words(&of(Kind::Fraction(4))), "kind 1 with 4 periods in the interval");
-        assert_eq!(kind_words(&of(Kind::Whole(1))), "kind 2 with a period of 1 interval");
-        assert_eq!(kind_words(&of(Kind::Transfer)), "kind 3, due in 3 intervals");
+        let words = |fields| {
+            let mut request = Request::admitted(fields, 1_024).unwrap();
+            request.pass(1);
+            [period(&request), kind_words(&request)]
+        };
+        assert_eq!(words([1, 4, 1, 1, 9]), ["1/4", "kind 1 with 4 periods in the interval"]);
+        assert_eq!(words([2, 5, 1, 1, 5]), ["2 of 5", "kind 2, interval 2 of 5 of its period"]);
+        assert_eq!(words([2, 1, 1, 1, 5]), ["1 of 1", "kind 2, interval 1 of 1 of its period"]);
+        assert_eq!(words([3, 3, 1, 0, 3]), ["due in 2", "kind 3, due in 2 intervals"]);
+        assert_eq!([had([7_000, 7_000]), had([0, 7_000])], ["7,000", "0 to 7,000"]);
+    }
+
+    /// A transfer that had 500 slots in the first of its two intervals.
+    fn transfer() -> Request {
+        let mut request = Request::admitted([3, 2, 3_000, 0, 2], 2_048).unwrap();
+        request.pass(500);
+        request
     }
 
     #[test]
@@ -118,6 +144,11 @@ mod tests {
         let expected = "A timeline with a lane for each stream. 2,048 slots (2 time units); 2 streams, 2 records; \
             idle: 1,047 slots. Stream 5: 1 slot in 1 record. Stream 9: 1,000 slots in 1 record.";
         assert_eq!(description(&plan), expected);
+        let held = [(5, Request::admitted([1, 2, 1, 9, 1], 2_048).unwrap()), (9, transfer())].into();
+        let table = Plan::new(2, &records, Known::Table(Table { interval: 2_048, held })).unwrap();
+        let sentences = "Stream 5, kind 1 with 2 periods in the interval: 1 slot in 1 record; had 0 to 1, minimum 1, maximum 9. \
+            Stream 9, kind 3, due in 1 interval: 1,000 slots in 1 record; had 1,500, minimum 3,000, maximum 3,000.";
+        assert!(description(&table).ends_with(sentences));
         let open_end = Plan::new(2, &records, Known::Nothing).unwrap();
         assert!(summary(&open_end).starts_with("1,002 slots up to the end of the last record; "));
     }

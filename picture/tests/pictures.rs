@@ -30,9 +30,9 @@ fn run(arguments: &[&str], answers: &[u8]) -> Output {
 }
 
 /// Holds the program to a stored picture.
-fn held_to(picture: &str, calls: &str, answers: &str) {
+fn held_to(picture: &str, calls: &str, answers: &str, beacon: &str) {
     let calls = path(calls);
-    let output = run(&["--calls", calls.to_str().unwrap()], &stored(answers));
+    let output = run(&["--calls", calls.to_str().unwrap(), "--beacon", beacon], &stored(answers));
     assert_eq!(String::from_utf8_lossy(&output.stderr), "");
     assert!(output.status.success());
     assert!(output.stdout == stored(picture), "{picture} differs");
@@ -40,12 +40,22 @@ fn held_to(picture: &str, calls: &str, answers: &str) {
 
 #[test]
 fn case_1_is_as_stored() {
-    held_to("data/case1.svg", "data/case1.csv", "data/case1.out");
+    held_to("data/case1.svg", "data/case1.csv", "data/case1.out", "1");
 }
 
 #[test]
-fn the_first_plan_of_the_schools_day_is_as_stored() {
-    held_to("../docs/plan.svg", "../reference/data/school.in", "../reference/data/school.out");
+fn the_plan_of_the_schools_day_is_as_stored() {
+    held_to("../docs/plan.svg", "../reference/data/school.in", "../reference/data/school.out", "22");
+}
+
+/// The picture of the top README has a request of every kind, each with slots.
+#[test]
+fn the_stored_plan_has_every_kind() {
+    let picture = String::from_utf8(stored("../docs/plan.svg")).unwrap();
+    for fill in ["#fff2cc", "#b4d2ee", "#c8743c"] {
+        let bars = picture.lines().filter(|line| line.contains(fill) && line.contains("<title>stream"));
+        assert!(bars.count() > 0, "{fill}");
+    }
 }
 
 #[test]
