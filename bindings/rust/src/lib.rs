@@ -10,6 +10,11 @@ mod ffi;
 
 pub use ffi::Entry;
 
+/// The README's program is compiled and run with the tests. All its blocks are fenced with their language: an indented one counts as Rust.
+#[cfg(doctest)]
+#[doc = include_str!("../../../README.md")]
+struct Readme;
+
 /// The least memory that a beacon takes for its plan, in words.
 pub const PLAN_WORDS: usize = 4_096;
 
