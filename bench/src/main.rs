@@ -53,7 +53,9 @@ fn growth(folder: &Path) -> io::Result<()> {
         let (table, plots) = report::growth(&growth)?;
         println!("{table}");
         for (name, svg) in plots {
-            fs::write(folder.join(name), svg)?;
+            let path = folder.join(name);
+            fs::write(&path, svg)?;
+            eprintln!("wrote {}", path.display());
         }
     }
     Ok(())

@@ -4,7 +4,7 @@ use std::fmt::Write;
 
 /// A line of the plot: its name, and points with both numbers above 0.
 pub struct Line {
-    /// Written at its last point.
+    /// Written in the margin, behind a sample of the line.
     pub name: &'static str,
     /// In the order in which they are joined.
     pub points: Vec<(f64, f64)>,
@@ -79,7 +79,7 @@ pub fn svg(text: &Text, lines: &[Line]) -> String {
 fn grid(out: &mut String, x: &Axis, y: &Axis) {
     for (power, at) in x.ticks() {
         let _ = writeln!(out, "<path d=\"M{at:.1} {:.1}V{:.1}\" stroke=\"#ddd\"/>", y.from, y.to);
-        tick(out, at, y.from + 14.0, "middle", power);
+        tick(out, at, y.from + 17.0, "middle", power);
     }
     for (power, at) in y.ticks() {
         let _ = writeln!(out, "<path d=\"M{:.1} {at:.1}H{:.1}\" stroke=\"#ddd\"/>", x.from, x.to);
@@ -94,40 +94,64 @@ fn tick(out: &mut String, x: f64, y: f64, anchor: &str, power: i32) {
     );
 }
 
-fn draw(out: &mut String, x: &Axis, y: &Axis, line: &Line, place: usize) {
+/// The grey and the dashes of a line, by its place among the lines.
+fn style(place: usize) -> (&'static str, &'static str) {
     const STYLES: [(&str, &str); 4] =
         [("#000", "none"), ("#555", "6 3"), ("#888", "2 3"), ("#aaa", "8 2 2 2")];
-    let (grey, dashes) = STYLES[place % STYLES.len()];
-    let at: Vec<String> =
-        line.points.iter().map(|point| format!("{:.1},{:.1}", x.place(point.0), y.place(point.1))).collect();
+    STYLES[place % STYLES.len()]
+}
+
+fn draw(out: &mut String, x: &Axis, y: &Axis, line: &Line, place: usize) {
+    let at: Vec<(f64, f64)> = line.points.iter().map(|point| (x.place(point.0), y.place(point.1))).collect();
+    joined(out, &at, place);
+    at.iter().for_each(|&point| mark(out, point, place));
+}
+
+fn joined(out: &mut String, points: &[(f64, f64)], place: usize) {
+    let (grey, dashes) = style(place);
+    let at: Vec<String> = points.iter().map(|(x, y)| format!("{x:.1},{y:.1}")).collect();
     let _ = writeln!(
         out,
         "<polyline points=\"{}\" fill=\"none\" stroke=\"{grey}\" stroke-width=\"1.6\" stroke-dasharray=\"{dashes}\"/>",
         at.join(" ")
     );
-    for point in &line.points {
-        let _ = writeln!(
-            out,
-            "<circle cx=\"{:.1}\" cy=\"{:.1}\" r=\"2.2\" fill=\"{grey}\"/>",
-            x.place(point.0),
-            y.place(point.1)
-        );
+}
+
+fn mark(out: &mut String, (x, y): (f64, f64), place: usize) {
+    let grey = style(place).0;
+    let _ = writeln!(out, "<circle cx=\"{x:.1}\" cy=\"{y:.1}\" r=\"2.2\" fill=\"{grey}\"/>");
+}
+
+/// The height that a name takes, and the length of the sample before it.
+const NAME: f64 = 14.0;
+const SAMPLE: f64 = 24.0;
+
+/// Each line's name in the margin, where nothing crosses it, as high as the line's last point. A sample of the line stands before it, since
+/// a line may end far from the margin.
+fn names(out: &mut String, x: &Axis, y: &Axis, lines: &[Line]) {
+    let named: Vec<(usize, f64)> = lines
+        .iter()
+        .enumerate()
+        .filter_map(|(place, line)| line.points.last().map(|point| (place, y.place(point.1))))
+        .collect();
+    let from = x.to + 12.0;
+    for (place, height) in apart(named) {
+        joined(out, &[(from, height), (from + SAMPLE, height)], place);
+        mark(out, (from + SAMPLE / 2.0, height), place);
+        let (at, name) = (from + SAMPLE + 5.0, lines[place].name);
+        let _ = writeln!(out, "<text x=\"{at:.1}\" y=\"{:.1}\">{name}</text>", height + 4.0);
     }
 }
 
-/// Each line's name beside its last point, pushed down where two would lie on each other.
-fn names(out: &mut String, x: &Axis, y: &Axis, lines: &[Line]) {
-    let mut ends: Vec<(f64, f64, &str)> = lines
-        .iter()
-        .filter_map(|line| line.points.last().map(|point| (y.place(point.1), x.place(point.0), line.name)))
-        .collect();
-    ends.sort_by(|a, b| a.0.total_cmp(&b.0));
-    let mut free = 0f64;
-    for (height, across, name) in ends {
-        let height = (height + 4.0).max(free);
-        let _ = writeln!(out, "<text x=\"{:.1}\" y=\"{height:.1}\">{name}</text>", across + 7.0);
-        free = height + 13.0;
+/// Names from the lowest on the page to the highest, moved up where they would lie on the one before.
+fn apart(mut named: Vec<(usize, f64)>) -> Vec<(usize, f64)> {
+    named.sort_by(|a, b| b.1.total_cmp(&a.1));
+    let mut free = f64::INFINITY;
+    for (_, height) in &mut named {
+        *height = height.min(free);
+        free = *height - NAME;
     }
+    named
 }
 
 #[cfg(test)]
@@ -147,6 +171,22 @@ mod tests {
         let lines = ["ours", "second"].map(|name| Line { name, points: vec![(1.0, 10.0), (10.0, 10.0)] });
         let text = svg(&Text { title: "t", across: "a" }, &lines);
         assert!(text.contains(">ours<") && text.contains(">second<") && text.ends_with("</svg>\n"));
-        assert_eq!(text.matches("<polyline").count(), 2);
+        // Each line, and its sample.
+        assert_eq!(text.matches("<polyline").count(), 4);
+    }
+
+    #[test]
+    fn names_do_not_lie_on_each_other() {
+        let heights = vec![(0, 100.0), (1, 30.0), (2, 97.0), (3, 100.0), (4, 50.0)];
+        assert_eq!(apart(heights), [(0, 100.0), (3, 86.0), (2, 72.0), (4, 50.0), (1, 30.0)]);
+    }
+
+    #[test]
+    fn names_stand_in_the_margin() {
+        let line = Line { name: "ours", points: vec![(1.0, 1.0), (100.0, 10.0)] };
+        let text = svg(&Text { title: "t", across: "a" }, &[line]);
+        let at = text.split("<text x=\"").find(|part| part.contains(">ours<")).unwrap();
+        let at: f64 = at.split('"').next().unwrap().parse().unwrap();
+        assert!(at > WIDTH - RIGHT);
     }
 }
