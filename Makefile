@@ -24,12 +24,13 @@ show:
 # must-fail edit and every program; then, over what was just proved, the calls from C and from Rust, and the program where reads and writes
 # fail. The last line is that of rt ci.
 # Crates and edits are checked in batches, each of which waits for its slowest: batches of six keep two cores at work. A check unpacks some
-# 200 MB of small files: in memory, where it has 8 GB for them and programs may run from there.
+# 200 MB of small files: in memory, where it has 8 GB for them and programs may run from there. The recipe says make and not its variable,
+# since a dry run, make -n, runs a line that has the variable.
 scratch = $(shell awk '$$2 == "/dev/shm" && $$4 !~ /noexec/' /proc/mounts | grep -q . && df -k --output=avail /dev/shm \
     | awk 'NR == 2 && $$1 > 8000000 { print "/dev/shm" }')
 test: reference compared
 	@rt fmt --check
-	@log=$$(mktemp) && RT_JOBS=6 TMPDIR=$(or $(TMPDIR),$(scratch),/tmp) rt ci | tee $$log && $(MAKE) bindings failures && tail -n 1 $$log && rm $$log
+	@log=$$(mktemp) && RT_JOBS=6 TMPDIR=$(or $(TMPDIR),$(scratch),/tmp) rt ci | tee $$log && make bindings failures && tail -n 1 $$log && rm $$log
 
 reference:
 	@cargo test --offline --release --quiet --manifest-path reference/Cargo.toml
