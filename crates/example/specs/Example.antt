@@ -8,7 +8,6 @@ use lib.ListN.{length, getD, replicate}
 use Rattle.lists.specs.Lists.{sameList}
 use Rattle.model.specs.Requests.{refusal, fieldChecks}
 use Rattle.model.specs.Entries.{entryOf}
-use Rattle.model.specs.declared.Request.{Request}
 use Rattle.rules.specs.Share.{load, slotsFor, order, take-turns, stepB, remains, weight, extra, stepC}
 use Rattle.rules.specs.Slots.{Run, jobsFrom, tieOrder, jobs, choose, slotsFrom, stepD, prepend, runsFrom, stepE}
 use Rattle.rules.specs.Ahead.{passed, renewed, settled, stepF, goesWell, fitsAhead}
@@ -16,11 +15,9 @@ use Rattle.rules.specs.Calls.{opened, offerAnswer, placed, offered, heldAnswer,
 use Rattle.exact.specs.Assignment.{Assignment}
 use Rattle.guarantee.specs.History.{Call, Offer, Withdraw, Beacon, Seen, recordsOf, seen, after, history, answerSeen, planSeen}
 use Rattle.guarantee.specs.Ledger.{Admission, Ledger, begins, note, noteAll, ledgerOf}
-use Rattle.guarantee.specs.Demand.{timesGiven, givenTo, slotsOf, had, answerTo, ServesAll}
+use Rattle.guarantee.specs.Demand.{timesGiven, givenTo, slotsOf, had, answerTo, ServesAll, seenOf, seenNext}
+use Rattle.guarantee.specs.Bounds.{request}
 use Rattle.guarantee.specs.Proof.{demand3}
-
-abbrev request : (stream kind period least most life : ℕ) → Request
-request i k p a b l = record { stream = i; kind = k; period = p; min = a; max = b; life = l }
 
 abbrev memory : List ℕ
 memory = replicate 4096 0
@@ -84,13 +81,13 @@ example-right = refl
 abbrev calls4 : List Call
 calls4 = Offer (request 5 1 2 100 300 4) ∷ Offer (request 7 2 2 600 1000 4) ∷ Offer (request 9 3 1 300 0 1) ∷ []
 
-answers4 : (answerTo 1 calls4 (request 11 3 2 748 0 2) ≡ 0) × (answerTo 1 calls4 (request 11 3 2 749 0 2) ≡ 17)
+answers4 : (answerTo (seenNext 1 calls4) (request 11 3 2 748 0 2) ≡ 0) × (answerTo (seenNext 1 calls4) (request 11 3 2 749 0 2) ≡ 17)
 unfolding refusal fieldChecks entryOf load slotsFor order take-turns stepB passed renewed settled stepF goesWell fitsAhead
     opened offerAnswer placed offered seen after history
 answers4 = (refl, refl)
 
-pub some-assignment : (a : Assignment) × ServesAll 1 calls4 (request 11 3 2 748 0 2) a
+pub some-assignment : (a : Assignment) × ServesAll 1024 (seenOf 1 calls4) (request 11 3 2 748 0 2) a
 some-assignment = demand3 1 refl calls4 .accepted (request 11 3 2 748 0 2) (answers4 .0)
 
-pub no-assignment : (a : Assignment) → ServesAll 1 calls4 (request 11 3 2 749 0 2) a → ⊥
+pub no-assignment : (a : Assignment) → ServesAll 1024 (seenOf 1 calls4) (request 11 3 2 749 0 2) a → ⊥
 no-assignment = demand3 1 refl calls4 .refused (request 11 3 2 749 0 2) (answers4 .1)

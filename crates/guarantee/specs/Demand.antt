@@ -1,5 +1,6 @@
 -- Demand 3, "What a list of calls gives" of document 01, as one statement over arguments, answers and plans: no table is named in it.
--- B is the number of slots of an interval. docs/GUARANTEE.md reads it line by line. Assumes nothing.
+-- B is the number of slots of an interval. docs/GUARANTEE.md reads it line by line; specs/Bounds.antt shows that no bound can be left out.
+-- Assumes nothing.
 use mathlib.Core.Path.{_≡_}
 use mathlib.Core.Logic.{_⊎_, _↔_, _≢_}
 use mathlib.Core.Bool.{true, not, _&&_}
@@ -80,32 +81,39 @@ Right B l (Offered q a) =
 Right B l (Withdrew s a) = a ≡ refusal (check 20 (not (anyOf (isOf s) (l .held))) ∷ [])
 Right B l (Planned n a rs) = a ≡ refusal (check 30 (ltb n (recordWords * mostRecords)) ∷ [])
 
--- ---- the claim, of the calls cs from the table of a successful opening with u time units, and of any call that follows them
-module _ (u : ℕ) (cs : List Call) where
-  abbrev pub ledgerAfter : Ledger
-  ledgerAfter = ledgerOf (history (opened u) cs)
+-- ---- slots
+-- a plan gives no slot twice
+abbrev pub Once : Seen → Type 0
+Once v = (x : ℕ) → timesGiven x (planSeen v) ≤ 1
 
-  -- what is seen of a call that follows; its answer, if it is an offer
+-- ---- the demand, of what was seen of some calls, vs, and of what is seen of any call that follows them
+-- the answer to an offer that follows
+abbrev pub answerTo : (next : Call → Seen) → Request → ℕ
+answerTo next q = answerSeen (next (Offer q))
+
+-- an assignment serves the minimums of all held requests and of the offered one, which counts as accepted
+abbrev pub ServesAll : ℕ → List Seen → Request → Assignment → Type 0
+ServesAll B vs q a = All (Serves B a) (begins q ∷ ledgerOf vs .held)
+
+pub record Demand3 (B : ℕ) (vs : List Seen) (next : Call → Seen) : Type 0 where
+  pub kept : All (Kept B) (ledgerOf vs .held ++ ledgerOf vs .past)
+  pub once : All Once vs
+  pub answers : (c : Call) → Right B (ledgerOf vs) (next c)
+  -- both directions as facts one can use: an assignment is there, or every assignment is refuted
+  pub accepted : (q : Request) → answerTo next q ≡ 0 → (a : Assignment) × ServesAll B vs q a
+  pub refused : (q : Request) → answerTo next q ≡ 17 → (a : Assignment) → ServesAll B vs q a → ⊥
+  pub exact :
+      (q : Request) → refusal (offerChecks B (ledgerOf vs) q) ≡ 0
+      → (answerTo next q ≡ 17) ↔ ((a : Assignment) → ServesAll B vs q a → ⊥)
+
+-- ---- the claim, of the calls cs from the table of a successful opening with u time units
+module _ (u : ℕ) (cs : List Call) where
+  abbrev pub seenOf : List Seen
+  seenOf = history (opened u) cs
+
+  -- what is seen of a call that follows
   abbrev pub seenNext : Call → Seen
   seenNext c = lastSeen (history (opened u) (cs ++ (c ∷ [])))
 
-  abbrev pub answerTo : Request → ℕ
-  answerTo q = answerSeen (seenNext (Offer q))
-
-  -- an assignment serves the minimums of all held requests and of the offered one, which counts as accepted
-  abbrev pub ServesAll : Request → Assignment → Type 0
-  ServesAll q a = All (Serves (1024 * u) a) (begins q ∷ ledgerAfter .held)
-
-  pub record Demand3 : Type 0 where
-    pub kept : All (Kept (1024 * u)) (ledgerAfter .held ++ ledgerAfter .past)
-    pub once : All (λ v. (x : ℕ) → timesGiven x (planSeen v) ≤ 1) (history (opened u) cs)
-    pub answers : (c : Call) → Right (1024 * u) ledgerAfter (seenNext c)
-    -- both directions as facts one can use: an assignment is there, or every assignment is refuted
-    pub accepted : (q : Request) → answerTo q ≡ 0 → (a : Assignment) × ServesAll q a
-    pub refused : (q : Request) → answerTo q ≡ 17 → (a : Assignment) → ServesAll q a → ⊥
-    pub exact :
-        (q : Request) → refusal (offerChecks (1024 * u) ledgerAfter q) ≡ 0
-        → (answerTo q ≡ 17) ↔ ((a : Assignment) → ServesAll q a → ⊥)
-
 abbrev pub Claim : Type 0
-Claim = (u : ℕ) → within 1 1000 u ≡ true → (cs : List Call) → Demand3 u cs
+Claim = (u : ℕ) → within 1 1000 u ≡ true → (cs : List Call) → Demand3 (1024 * u) (seenOf u cs) (seenNext u cs)

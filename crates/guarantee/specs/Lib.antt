@@ -8,3 +8,4 @@ pub mod Serving
 pub mod Planned
 pub mod Keeps
 pub mod Proof
+pub mod Bounds

@@ -22,9 +22,9 @@ use Rattle.laws.specs.Offers.{offerChecksBut, isFull, hasTime, offer-refused, o
 use Rattle.ahead.specs.Tables.{formed-together}
 use Rattle.ahead.specs.Formed.{opened-formed, passed-held}
 use Rattle.exact.specs.Offer.{offer-served, offer-hopeless}
-use Rattle.guarantee.specs.History.{Call, Offer, Withdraw, Beacon, recordsOf, seen, after, history, answerSeen, planSeen, lastSeen}
-use Rattle.guarantee.specs.Ledger.{Ledger, begins, isOf, note, noteAll, noAdmission}
-use Rattle.guarantee.specs.Demand.{timesGiven, Kept, Serves, offerChecks, Right, ledgerAfter, answerTo, ServesAll, Claim}
+use Rattle.guarantee.specs.History.{Call, Offer, Withdraw, Beacon, recordsOf, seen, after, history, answerSeen, lastSeen}
+use Rattle.guarantee.specs.Ledger.{Ledger, begins, isOf, note, noteAll, noAdmission, ledgerOf}
+use Rattle.guarantee.specs.Demand.{timesGiven, Kept, Serves, offerChecks, Right, Once, answerTo, ServesAll, seenOf, seenNext, Claim}
 use Rattle.guarantee.specs.Link.{same-fields, begins-linked}
 use Rattle.guarantee.specs.Serving.{serves-entry, entry-serves}
 use Rattle.guarantee.specs.Planned.{records-back, plan-once}
@@ -74,7 +74,7 @@ last-seen [] t c = refl
 last-seen (d ∷ []) t c = refl
 last-seen (d ∷ e ∷ cs) t c = last-seen (e ∷ cs) (after t d) c
 
-once-each : (t : Table) (c : Call) (x : ℕ) → timesGiven x (planSeen (seen t c)) ≤ 1
+once-each : (t : Table) (c : Call) → Once (seen t c)
 unfolding seen beacon planOf timesGiven recordsOf
 once-each t (Offer q) x = zero-le
 once-each t (Withdraw s) x = zero-le
@@ -87,7 +87,7 @@ once-each t (Beacon ws) x = go (ltb (length ws) (recordWords * mostRecords))
         subst (λ rs. timesGiven x rs ≤ 1) (sym (records-back (planOf t) (drop (recordWords * length (planOf t)) ws)))
         (plan-once (t .interval .0) (heldOf t) x)
 
-once-all : (cs : List Call) (t : Table) → All (λ v. (x : ℕ) → timesGiven x (planSeen v) ≤ 1) (history t cs)
+once-all : (cs : List Call) (t : Table) → All Once (history t cs)
 unfolding history
 once-all [] t = stop
 once-all (c ∷ cs) t = and (once-each t c) (once-all cs (after t c))
@@ -152,7 +152,7 @@ module _ (u : ℕ) (h : within 1 1000 u ≡ true) (cs : List Call) where
   reached = tableAfter (opened u) cs
 
   abbrev ledger : Ledger
-  ledger = ledgerAfter u cs
+  ledger = ledgerOf (seenOf u cs)
 
   pub reached-stands : Stands ledger reached
   reached-stands = along cs noAdmission (opened u) (start u h)
@@ -162,19 +162,19 @@ module _ (u : ℕ) (h : within 1 1000 u ≡ true) (cs : List Call) where
   slots = interval-along (opened u) cs
 
   -- the answer to an offer that follows
-  answer-next : (q : Request) → answerTo u cs q ≡ offerAnswer reached q
+  answer-next : (q : Request) → answerTo (seenNext u cs) q ≡ offerAnswer reached q
   unfolding seen
   answer-next q = ap answerSeen (last-seen cs (opened u) (Offer q))
 
   right-next : (c : Call) → Right (1024 * u) ledger (seen reached c)
   right-next c = subst (λ B. Right B ledger (seen reached c)) slots (answer-right ledger reached reached-stands c)
 
-  served-next : (q : Request) → answerTo u cs q ≡ 0 → (a : Assignment) × ServesAll u cs q a
+  served-next : (q : Request) → answerTo (seenNext u cs) q ≡ 0 → (a : Assignment) × ServesAll (1024 * u) (seenOf u cs) q a
   served-next q z =
       subst (λ B. (a : Assignment) × All (Serves B a) (begins q ∷ ledger .held)) slots
       (served ledger reached reached-stands q (sym (answer-next q) ∙ z))
 
-  hopeless-next : (q : Request) → answerTo u cs q ≡ 17 → (a : Assignment) → ServesAll u cs q a → ⊥
+  hopeless-next : (q : Request) → answerTo (seenNext u cs) q ≡ 17 → (a : Assignment) → ServesAll (1024 * u) (seenOf u cs) q a → ⊥
   hopeless-next q z a s =
       hopeless ledger reached reached-stands q (sym (answer-next q) ∙ z) a
       (subst (λ B. All (Serves B a) (begins q ∷ ledger .held)) (sym slots) s)
