@@ -115,5 +115,8 @@ module _ (u : ℕ) (cs : List Call) where
   abbrev pub seenNext : Call → Seen
   seenNext c = lastSeen (history (opened u) (cs ++ (c ∷ [])))
 
+  abbrev pub Demanded : Type 0
+  Demanded = Demand3 (1024 * u) seenOf seenNext
+
 abbrev pub Claim : Type 0
-Claim = (u : ℕ) → within 1 1000 u ≡ true → (cs : List Call) → Demand3 (1024 * u) (seenOf u cs) (seenNext u cs)
+Claim = (u : ℕ) → within 1 1000 u ≡ true → (cs : List Call) → Demanded u cs

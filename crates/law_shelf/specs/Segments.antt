@@ -22,7 +22,7 @@ use Rattle.meaning.specs.Room.{planWords}
 use Rattle.between.specs.Cutting.{firstShelf}
 use Rattle.between.specs.Whole.{stateRun, served}
 use Rattle.guarantee.specs.History.{Call, Offer, Withdraw, Beacon, Seen, Offered, Withdrew, Planned, seen, after, history}
-use Rattle.guarantee.specs.Demand.{Demand3}
+use Rattle.guarantee.specs.Demand.{Demanded}
 use Rattle.guarantee.specs.Proof.{tableAfter}
 
 -- ---- the cut
@@ -144,4 +144,4 @@ module _ (input : List ℕ) where
     pub lent : (t : Table) (ws : List ℕ) → length ws ≡ planWords
         → (seen t (Beacon ws) ≡ seen t (Beacon memory)) × (after t (Beacon ws) ≡ after t (Beacon memory))
     -- demand 3, after the first n rows of each segment
-    pub kept : All (λ g. (n : ℕ) → Demand3 (g .units) (callsOf (take n (g .rows)))) segmentsOf
+    pub kept : All (λ g. (n : ℕ) → Demanded (g .units) (callsOf (take n (g .rows)))) segmentsOf
