@@ -1,5 +1,6 @@
 // Rows on standard output, each ended by a line feed. What is printed is no part of a contract: a program that prints is held to the rows
 // stored beside it.
+ghost use mathlib.Core.Path.{_≡_};
 use model::Entry;
 
 pub fn line(text: &[u8]) {
@@ -50,12 +51,16 @@ fn slot_row(plan: &[u32], i: usize) {
     io::write_all(1, b"\n");
 }
 
-pub fn slot_rows(plan: &[u32], count: usize) {
+// The first records of a plan, and how many they are.
+pub fn slot_rows(plan: &[u32], count: usize) -> usize
+    ensures { λ r. ⌜ r ≡ count ⌝ }
+{
     let mut i = 0;
     while i < count {
         slot_row(plan, i);
         i += 1;
     }
+    i
 }
 
 // Every field of an entry.

@@ -3,13 +3,17 @@
 // A program over this crate runs the proved calls, and its run is held to the rows that are stored beside it.
 ghost use mathlib.Core.Bool.{cond, true};
 ghost use mathlib.Core.Path.{_≡_};
+ghost use Prim.Native.Nat.{_/_};
 ghost use lib.Dec.{eqb};
+ghost use lib.ListN.{length};
 ghost use Rattle.lists.specs.Lists.{within};
-ghost use Rattle.rules.specs.Calls.{openAnswer, opened, offered, withdrawn, beacon};
+ghost use Rattle.rules.specs.Calls.{recordWords, openAnswer, opened, offered, heldAnswer, withdrawn, beacon};
+ghost use Rattle.rules.specs.Reading.{enquired, windowAnswer, windowPart};
 ghost use Rattle.rules.specs.WellFormed.{WellFormed};
-ghost use Rattle.refusals.specs.Numbers.{openNumber, beaconNumber};
+ghost use Rattle.refusals.specs.Numbers.{openNumber, heldNumber, beaconNumber};
 ghost use Rattle.opening.specs.Tables.{noTable};
 ghost use Rattle.admission.specs.Six.{request};
+use held::Enquiry;
 use model::Table;
 use opening::Opening;
 use planner::Beaconing;
@@ -55,13 +59,15 @@ pub fn withdraw(t: Table, stream: u32) -> Table
     w.table
 }
 
-pub fn enquire(t: Table, stream: u32)
+pub fn enquire(t: Table, stream: u32) -> Enquiry
     requires { ⌜ WellFormed t ⌝ }
+    ensures { λ r. ⌜ (heldNumber (r .answer) ≡ heldAnswer t stream) × (r .entry ≡ enquired t stream) ⌝ }
 {
     let q = held::enquire(t, stream);
     let answer = q.answer;
     display::stream_row(b"enquire", stream, refusals::held_number(answer));
     display::entry_row(q.entry);
+    q
 }
 
 // The answer alone.
@@ -88,10 +94,20 @@ pub fn beacon(t: Table, plan: &mut [u32]) -> Table
     b.table
 }
 
+// A window's answer, and how many records its part has.
+pub struct Part {
+    pub answer: u32,
+    pub records: usize,
+}
+
 // The answer, and every record of the part that the window hands back.
-pub fn window(plan: &[u32], count: usize, from: u32, until: u32) {
+pub fn window(plan: &[u32], count: usize, from: u32, until: u32) -> Part
+    ensures { λ r. let words = now (plan .entry) in
+        ⌜ (r .answer ≡ windowAnswer words count from until) × (r .records ≡ length (windowPart words count from until) / recordWords) ⌝ }
+{
     let mut answer: u32 = 0;
     let part = window::window(plan, count, from, until, &mut answer);
     display::plain_row(b"window", answer);
-    display::slot_rows(part, part.len() / 4);
+    let records = display::slot_rows(part, part.len() / 4);
+    Part { answer, records }
 }

@@ -1,11 +1,11 @@
--- Each turn comes one nearer to the count. Assumes nothing.
-use Prim.Native.Nat.{_-_}
+-- Each turn comes one nearer to the count, and none passes it. Assumes nothing.
+use Prim.Native.Nat.{_≤_, _-_}
 use borrow.Author.Needs.{needs}
 use Rattle.display.proofs.slot_rows.Statement.{statement}
 use Rattle.display.proofs.slot_rows.Tie as tie
 
 abbrev Inv-loop : tie.InvT-loop
-Inv-loop plan count i₀ i = Unit
+Inv-loop plan count i₀ i = i ≤ count
 
 abbrev μ-loop : tie.MeasureT-loop
 μ-loop plan count i₀ i = count - i
