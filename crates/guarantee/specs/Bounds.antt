@@ -186,6 +186,11 @@ beacon-planned l r = omega arith
 abbrev gets : (stream : ℕ) → List ℕ → Assignment
 gets s ns k z = cond (ltb z (getD ns k 0)) (some s) none
 
+-- a slot goes to one stream alone
+pub slot-of-one : assigned (gets 5 (8 ∷ [])) 7 0 0 8 ≡ 0
+unfolding assigned
+slot-of-one = refl
+
 -- kind 1: all four slots of each period
 pub fraction-served : Serves 8 (gets 5 (8 ∷ [])) (begins (request 5 1 2 4 4 1))
 unfolding assigned
