@@ -13,12 +13,12 @@ use model::Entry;
 
 // ---- an opening
 // The place after its row, and whether there is a new table.
-pub struct Opening {
+pub struct OpenRow {
     pub at: usize,
     pub succeeded: bool,
 }
 
-pub fn answer_open(units: u32, out: &mut [u8], at: usize) -> Opening
+pub fn answer_open(units: u32, out: &mut [u8], at: usize) -> OpenRow
     requires { ⌜ at + answerMost ≤ length (now out) ⌝ }
     ensures { λ r. let bs = plainRow openVerb (openAnswer units) in
         ⌜ (r .succeeded ≡ eqb (openAnswer units) 0) × ((r .at ≡ at + length bs) × (now (out .exit) ≡ written (now (out .entry)) at bs)) ⌝ }
@@ -26,7 +26,7 @@ pub fn answer_open(units: u32, out: &mut [u8], at: usize) -> Opening
     let answer = opening::open_answer(units);
     let number = refusals::open_number(answer);
     let next = printing::plain_row(out, at, b"open", number);
-    Opening {
+    OpenRow {
         at: next,
         succeeded: number == 0,
     }

@@ -13,14 +13,14 @@ use model::Table;
 use share::Shares;
 
 // The place after its rows, and what moves the table on: the shares of the places in use. Where none is in use the table stays.
-pub struct Beaconing {
+pub struct BeaconRows {
     pub at: usize,
     pub used: usize,
     pub shares: Shares,
 }
 
 // Where there is no table, there is none to move on.
-fn no_table(out: &mut [u8], at: usize) -> Beaconing
+fn no_table(out: &mut [u8], at: usize) -> BeaconRows
     requires { ⌜ at + answerMost ≤ length (now out) ⌝ }
     ensures { λ r. let bs = plainRow beaconVerb noTableNumber in
         ⌜ (r .used ≡ 0) × ((r .at ≡ at + length bs) × (now (out .exit) ≡ written (now (out .entry)) at bs)) ⌝ }
@@ -30,7 +30,7 @@ fn no_table(out: &mut [u8], at: usize) -> Beaconing
         pieces: [0; 32],
         extras: [0; 32],
     };
-    Beaconing {
+    BeaconRows {
         at: next,
         used: 0,
         shares,
@@ -44,7 +44,7 @@ pub fn answer_beacon(
     plan: &mut [u32],
     out: &mut [u8],
     at: usize,
-) -> Beaconing
+) -> BeaconRows
     requires { ⌜ Ready (stateOf ready t) ⌝ }
     requires { ⌜ planWords ≤ length (now plan) ⌝ }
     requires { ⌜ at + answerMost ≤ length (now out) ⌝ }
@@ -61,7 +61,7 @@ pub fn answer_beacon(
     let after_call = printing::plain_row(out, at, b"beacon", number);
     let next = records::slot_rows(out, after_call, plan, p.count);
     let shares = p.shares;
-    Beaconing {
+    BeaconRows {
         at: next,
         used: p.used,
         shares,

@@ -30,7 +30,7 @@ fn load_in(period: u32, amount: u32) -> u32
     0
 }
 
-pub fn load_of(amounts: &[u32; 32], periods: &[u32; 32], used: usize) -> u64
+pub fn loads_in(amounts: &[u32; 32], periods: &[u32; 32], used: usize) -> u64
     requires { ⌜ (used ≤ 32) × ((length (now amounts) ≡ 32) × ((length (now periods) ≡ 32) × Spare 0 used (now amounts))) ⌝ }
     ensures { λ r. ⌜ r ≡ sumOf (λ v. v) (zip loadIn (now (periods .entry)) (now (amounts .entry))) ⌝ }
 {

@@ -29,7 +29,7 @@ fn goes_well(
         (now (amounts .entry)) (now (periods .entry)) ⌝ }
 {
     let slots = interval.0 as u64;
-    let mut load = events::load_of(amounts, periods, used);
+    let mut load = events::loads_in(amounts, periods, used);
     if slots < load {
         return false;
     }
@@ -44,7 +44,7 @@ fn goes_well(
         }
         serving::serve(ranks, owed, used, capacity - due);
         passing::pass_ends(ranks, owed, ends, lives, amounts, periods, used, at);
-        load = events::load_of(amounts, periods, used);
+        load = events::loads_in(amounts, periods, used);
         time = at;
         if try_at <= time as u64 {
             if even::needs_of(owed, ends, amounts, periods, used, time) <= slots {

@@ -9,7 +9,7 @@ use Rattle.lists.specs.All.{All, stop, and, head, tail}
 use Rattle.plan.specs.Rows.{Padded}
 use Rattle.plan.specs.RowLaws.{needAt, withNeed, spare-set}
 use Rattle.plan.specs.Heads.{firstLeft, left-stays, head-at, heads-set, heads-spare}
-use Rattle.plan.specs.Places.{never, releaseOf, releasesOf}
+use Rattle.plan.specs.Places.{noRelease, releaseOf, releasesOf}
 
 -- ---- the releases of the rows
 pub length-releases : (Ts hs : List ℕ) → length Ts ≡ length hs → length (releasesOf Ts hs) ≡ length hs
@@ -35,7 +35,7 @@ releases-set (T ∷ Ts) (x ∷ hs) zero h = refl
 releases-set (T ∷ Ts) (x ∷ hs) (suc i) h = ap (λ l. releaseOf T x ∷ l) (releases-set Ts hs i h)
 
 -- where no job is left
-pub releases-spare : (rows : ℕ) (Ts hs : List ℕ) → All (λ h. h ≡ 16) (drop rows hs) → All (λ r. r ≡ never) (drop rows (releasesOf Ts hs))
+pub releases-spare : (rows : ℕ) (Ts hs : List ℕ) → All (λ h. h ≡ 16) (drop rows hs) → All (λ r. r ≡ noRelease) (drop rows (releasesOf Ts hs))
 unfolding releasesOf releaseOf
 releases-spare zero [] hs q = stop
 releases-spare zero (T ∷ Ts) [] q = stop
@@ -54,7 +54,7 @@ module _ {rows : ℕ} {Ts : List ℕ} {nss : List (List ℕ)} {hs rs : List ℕ}
   heads-sized : length hs ≡ length nss
   heads-sized = ap length (k .heads) ∙ length-map nss firstLeft
 
-  pub kept-padded : length Ts ≡ 32 → length nss ≡ 32 → rows ≤ 32 → Padded rows never rs
+  pub kept-padded : length Ts ≡ 32 → length nss ≡ 32 → rows ≤ 32 → Padded rows noRelease rs
   kept-padded u v l = (
     ap length (k .releases) ∙ length-releases Ts hs (u ∙ sym v ∙ sym heads-sized) ∙ heads-sized ∙ v,
     (l, rw (k .releases, k .heads) (releases-spare rows Ts (map firstLeft nss) (heads-spare rows nss (k .spare)))),

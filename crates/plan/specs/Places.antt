@@ -56,8 +56,8 @@ choose-append t (j ∷ js) ks =
 
 -- ---- by place
 -- later than any job of an interval is due
-abbrev pub never : ℕ
-never = 4294967295
+abbrev pub noRelease : ℕ
+noRelease = 4294967295
 
 -- lengths of an interval of at most 1,000 time units
 abbrev pub Short : List ℕ → Type 0
@@ -68,7 +68,7 @@ short h q = all-map (λ T p. omega arith) q
 
 -- when job h of T slots is released; h is 16 where a row has none left
 unfoldable pub releaseOf : (T h : ℕ) → ℕ
-releaseOf T h = cond (leb 16 h) never (h * T)
+releaseOf T h = cond (leb 16 h) noRelease (h * T)
 
 -- of each row
 unfoldable pub releasesOf : (lengths heads : List ℕ) → List ℕ
@@ -78,7 +78,7 @@ releasesOf (T ∷ Ts) (h ∷ hs) = releaseOf T h ∷ releasesOf Ts hs
 
 -- when a job of T slots that is released at r is due, if that is by t
 abbrev dueBy : (t T r : ℕ) → ℕ
-dueBy t T r = cond (leb r t) (r + T) never
+dueBy t T r = cond (leb r t) (r + T) noRelease
 
 -- of the rows from place i on, the place of the first of those due first; so far it is p, due at d
 unfoldable pub placeFrom : (t i p d : ℕ) (lengths releases : List ℕ) → ℕ
@@ -90,14 +90,14 @@ placeFrom t i p d (T ∷ Ts) (r ∷ rs) =
 
 -- place 32 stands for none
 abbrev pub chosenAt : (t : ℕ) (lengths releases : List ℕ) → ℕ
-chosenAt t Ts rs = placeFrom t 0 32 never Ts rs
+chosenAt t Ts rs = placeFrom t 0 32 noRelease Ts rs
 
 -- a row's choice, with when it is due
 data Offer (j : Job) : ℕ → Option Job → Type 0 where
-  nothing : Offer j never none
-  one : j .due < never → Offer j (j .due) (some j)
+  nothing : Offer j noRelease none
+  one : j .due < noRelease → Offer j (j .due) (some j)
 
-row-offers : (t s T : ℕ) (ns : List ℕ) → length ns ≡ 16 → T ≤ 1024000 → t < never
+row-offers : (t s T : ℕ) (ns : List ℕ) → length ns ≡ 16 → T ≤ 1024000 → t < noRelease
     → Offer (jobAt s T (getD ns (firstLeft ns) 0) (firstLeft ns)) (dueBy t T (releaseOf T (firstLeft ns))) (choose t (rowFrom s T 0 ns))
 unfolding releaseOf
 row-offers t s T ns e l k =
@@ -105,25 +105,25 @@ row-offers t s T ns e l k =
     (go (firstLeft ns) (getD ns (firstLeft ns) 0) (leb 16 (firstLeft ns)) refl)
   where
     here : (h n : ℕ) → h < 16 → (b : Bool)
-        → Offer (jobAt s T n h) (cond b (h * T + T) never) (cond b (some (jobAt s T n h)) none)
+        → Offer (jobAt s T n h) (cond b (h * T + T) noRelease) (cond b (some (jobAt s T n h)) none)
     here h n q true = rw (← suc-mul h T) (one (omega (arith, mul-le-mul q l)))
     here h n q false = nothing
 
     go : (h n : ℕ) (a : Bool) → leb 16 h ≡ a
-        → Offer (jobAt s T n h) (dueBy t T (cond a never (h * T))) (cond (ltb h 16) (released t s T n h) none)
-    go h n true x = rw (le-ltb h 16 (leb-true 16 h x), lt-leb never t k) nothing
+        → Offer (jobAt s T n h) (dueBy t T (cond a noRelease (h * T))) (cond (ltb h 16) (released t s T n h) none)
+    go h n true x = rw (le-ltb h 16 (leb-true 16 h x), lt-leb noRelease t k) nothing
     go h n false x = rw (lt-ltb h 16 (leb-false 16 h x)) (here h n (leb-false 16 h x) (leb (h * T) t))
 
 -- the choice so far, which stands at place p and is due at d
 data Best (who : ℕ → Job) : ℕ → ℕ → Option Job → Type 0 where
-  nobody : Best who 32 never none
-  somebody : {i : ℕ} → i < 32 → who i .due < never → Best who i (who i .due) (some (who i))
+  nobody : Best who 32 noRelease none
+  somebody : {i : ℕ} → i < 32 → who i .due < noRelease → Best who i (who i .due) (some (who i))
 
 best-more : {who : ℕ → Job} {i p d x : ℕ} {c o : Option Job} → i < 32 → Best who p d c → Offer (who i) x o
     → Best who (cond (ltb x d) i p) (cond (ltb x d) x d) (sooner c o)
 best-more h nobody nothing = nobody
-best-more {who} {i} h nobody (one l) = rw (lt-ltb (who i .due) never l) (somebody h l)
-best-more {who} h (somebody {i = k} q m) nothing = rw (le-ltb never (who k .due) (omega arith)) (somebody q m)
+best-more {who} {i} h nobody (one l) = rw (lt-ltb (who i .due) noRelease l) (somebody h l)
+best-more {who} h (somebody {i = k} q m) nothing = rw (le-ltb noRelease (who k .due) (omega arith)) (somebody q m)
 best-more {who} {i} h (somebody {i = k} q m) (one l) = go (ltb (who i .due) (who k .due)) refl
   where
     go : (b : Bool) → ltb (who i .due) (who k .due) ≡ b
@@ -145,7 +145,7 @@ headIn ss Ts nss i = jobIn ss Ts nss i (firstLeft (getD nss i []))
 
 -- By the rows: the choice so far against the row's, and on with the others.
 places-choose : (who : ℕ → Job) (t i : ℕ) (ss Ts : List ℕ) (nss : List (List ℕ)) {p d : ℕ} {c : Option Job} → Best who p d c
-    → length ss ≡ length Ts → length nss ≡ length Ts → i + length Ts ≤ 32 → Wide nss → Short Ts → t < never
+    → length ss ≡ length Ts → length nss ≡ length Ts → i + length Ts ≤ 32 → Wide nss → Short Ts → t < noRelease
     → ((k : ℕ) → who (i + k) ≡ headIn ss Ts nss k)
     → heldBy who (placeFrom t i p d Ts (releasesOf Ts (map firstLeft nss))) ≡ sooner c (choose t (rowJobs ss Ts nss))
 unfolding placeFrom releasesOf rowJobs choose
@@ -165,7 +165,7 @@ places-choose who t i (s ∷ ss) (T ∷ Ts) (ns ∷ nss) {c = c} b u v r w l f h
 
 -- the law: the place chosen holds the chosen job
 pub place-chosen : (t : ℕ) (ss Ts : List ℕ) (nss : List (List ℕ)) → length ss ≡ 32 → length Ts ≡ 32 → length nss ≡ 32 → Wide nss
-    → Short Ts → t < never
+    → Short Ts → t < noRelease
     → heldBy (headIn ss Ts nss) (chosenAt t Ts (releasesOf Ts (map firstLeft nss))) ≡ choose t (rowJobs ss Ts nss)
 place-chosen t ss Ts nss u v r w l f =
     places-choose (headIn ss Ts nss) t 0 ss Ts nss nobody (omega arith) (omega arith) (omega arith) w l f
@@ -191,13 +191,13 @@ module _ (t i p d x : ℕ) (Ts rs : List ℕ) (h : i < length Ts) (k : i < lengt
 pub due-soon : (t T r : ℕ) → r ≤ t → dueBy t T r ≡ r + T
 due-soon t T r h = rw (le-leb r t h)
 
-pub due-never : (t T r : ℕ) → t < r → dueBy t T r ≡ never
+pub due-never : (t T r : ℕ) → t < r → dueBy t T r ≡ noRelease
 due-never t T r h = rw (lt-leb r t h)
 
 -- rows that have no job left change nothing
-pub place-end : (t i p d : ℕ) (Ts : List ℕ) {rs : List ℕ} → t < never → d ≤ never → All (λ r. r ≡ never) rs
+pub place-end : (t i p d : ℕ) (Ts : List ℕ) {rs : List ℕ} → t < noRelease → d ≤ noRelease → All (λ r. r ≡ noRelease) rs
     → placeFrom t i p d Ts rs ≡ p
 unfolding placeFrom
 place-end t i p d [] h l q = refl
 place-end t i p d (T ∷ Ts) h l stop = refl
-place-end t i p d (T ∷ Ts) h l (and e q) = rw (e, lt-leb never t h, le-ltb never d l) (place-end t (suc i) p d Ts h l q)
+place-end t i p d (T ∷ Ts) h l (and e q) = rw (e, lt-leb noRelease t h, le-ltb noRelease d l) (place-end t (suc i) p d Ts h l q)

@@ -13,11 +13,11 @@ ghost use Rattle.plan.specs.Rows.{Length, Rows, Padded, Spare, rowPlan};
 ghost use Rattle.plan.specs.Needs.{Counted, needsRow, needRows};
 ghost use Rattle.plan.specs.Heads.{firstLeft};
 ghost use Rattle.plan.specs.Next.{nextOf};
-ghost use Rattle.plan.specs.Places.{Short, never, releaseOf, releasesOf, chosenAt};
+ghost use Rattle.plan.specs.Places.{Short, noRelease, releaseOf, releasesOf, chosenAt};
 ghost use Rattle.plan.specs.Pens.{blank, named, openRun, recorded, grows, closed, extended};
 
 // Later than any job of an interval is due.
-const NEVER: u32 = 4294967295;
+const NO_RELEASE: u32 = 4294967295;
 
 // How many records are written, and the run that may still grow: none where its length is 0.
 struct Pen {
@@ -101,20 +101,20 @@ fn fill_heads(heads: &mut [usize; 32], rows: usize, needs: &[[u32; 16]; 32])
     }
 }
 
-// When a row's first unfinished job is released, where each is so many slots long; NEVER where it has none.
+// When a row's first unfinished job is released, where each is so many slots long; NO_RELEASE where it has none.
 fn release_of(slots: u32, job: usize) -> u32
     requires { ⌜ slots ≤ 1024000 ⌝ }
     ensures { λ r. ⌜ r ≡ releaseOf slots job ⌝ }
 {
     if 16 <= job {
-        return NEVER;
+        return NO_RELEASE;
     }
     (job as u32) * slots
 }
 
 // The same of each row; those behind the first rows have none.
 fn fill_releases(releases: &mut [u32; 32], rows: usize, lengths: &[u32; 32], heads: &[usize; 32])
-    requires { ⌜ (now releases ≡ replicate 32 never) × ((length (now lengths) ≡ 32) × Short (now lengths)) ⌝ }
+    requires { ⌜ (now releases ≡ replicate 32 noRelease) × ((length (now lengths) ≡ 32) × Short (now lengths)) ⌝ }
     requires { ⌜ Padded rows 16 (now heads) ⌝ }
     ensures { λ _. ⌜ now (releases .exit) ≡ releasesOf (now (lengths .entry)) (now (heads .entry)) ⌝ }
 {
@@ -126,11 +126,11 @@ fn fill_releases(releases: &mut [u32; 32], rows: usize, lengths: &[u32; 32], hea
 // The place of the job that slot t goes to: of those due first the first; 32 where the slot is idle.
 fn choose_place(t: u32, rows: usize, lengths: &[u32; 32], releases: &[u32; 32]) -> usize
     requires { ⌜ (t ≤ 1024000) × ((length (now lengths) ≡ 32) × Short (now lengths)) ⌝ }
-    requires { ⌜ Padded rows never (now releases) ⌝ }
+    requires { ⌜ Padded rows noRelease (now releases) ⌝ }
     ensures { λ r. ⌜ r ≡ chosenAt t (now (lengths .entry)) (now (releases .entry)) ⌝ }
 {
     let mut place: usize = 32;
-    let mut best = NEVER;
+    let mut best = NO_RELEASE;
     for i in 0..rows {
         let release = releases[i];
         if release <= t {
@@ -241,7 +241,7 @@ pub fn write_plan(
     fill_rows(&mut left, rows, counts, each);
     let mut heads = [16usize; 32];
     fill_heads(&mut heads, rows, &left);
-    let mut releases = [NEVER; 32];
+    let mut releases = [NO_RELEASE; 32];
     fill_releases(&mut releases, rows, lengths, &heads);
     let mut pen = blank_pen();
     let mut t: u32 = 0;

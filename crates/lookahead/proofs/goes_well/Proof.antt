@@ -35,17 +35,17 @@ Some s =
 cast-slots : tie.Need-cast-slots Inv-loop μ-loop
 cast-slots c = search needs
 
-load-of-requires : tie.Need-load-of-requires Inv-loop μ-loop
-load-of-requires c κs = (let b = c .before .before .pre .1 in for-load (b .shows) (b .tidy))
+loads-in-requires : tie.Need-loads-in-requires Inv-loop μ-loop
+loads-in-requires c κs = (let b = c .before .before .pre .1 in for-load (b .shows) (b .tidy))
 
 returns : tie.Need-returns Inv-loop μ-loop
-returns c = λ t b. first-full b (c .before .load-of .ensures) (c .if1 .taken)
+returns c = λ t b. first-full b (c .before .loads-in .ensures) (c .if1 .taken)
 
 next-end-requires : tie.Need-next-end-requires Inv-loop μ-loop
 next-end-requires c κs = (let b = c .before .before .before .before .before .pre .1 in for-end (b .shows) (b .tidy))
 
 loop-holds : tie.Need-loop-holds Inv-loop μ-loop
-loop-holds c = (λ t b. looking-first b (c .before .before .before .load-of .ensures) (c .before .before .if1 .left), c .next-end .ensures)
+loop-holds c = (λ t b. looking-first b (c .before .before .before .loads-in .ensures) (c .before .before .if1 .left), c .next-end .ensures)
 
 -- ---- a turn
 abbrev start : tie.At-loop Inv-loop μ-loop → tie.Start Inv-loop μ-loop
@@ -139,8 +139,8 @@ past p e t b =
     looking-next (l .loop .inv .0 t b) (l .loop .inv .1) (i .loop-test .taken) refl (d .pay-due .ensures .0) (g .if2 .left)
     (rw (← owed-then v) (p .pass-ends .ensures)) e
 
-load-of-requires-2 : tie.Need-load-of-requires-2 Inv-loop μ-loop
-load-of-requires-2 c κs =
+loads-in-requires-2 : tie.Need-loads-in-requires-2 Inv-loop μ-loop
+loads-in-requires-2 c κs =
     let p = c .before in
     let s = start (turn p .before) in
     let k = past p refl (s .pre .0) (s .pre .1) in
@@ -151,12 +151,12 @@ cast-if3 c =
     omega (arith, soon (turn (c .before .before)) .1)
 
 -- and of the table that was shown at the start
-past-known : (m : tie.After-load-of2 Inv-loop μ-loop) →
-    (let p = m .before .before in Past p (m .load-of2 .result) (start (turn p .before) .pre .0))
+past-known : (m : tie.After-loads-in2 Inv-loop μ-loop) →
+    (let p = m .before .before in Past p (m .loads-in2 .result) (start (turn p .before) .pre .0))
 past-known m =
     let p = m .before .before in
     let s = start (turn p .before) in
-    past p (m .load-of2 .ensures) (s .pre .0) (s .pre .1)
+    past p (m .loads-in2 .ensures) (s .pre .0) (s .pre .1)
 
 needs-of-requires : tie.Need-needs-of-requires Inv-loop μ-loop
 needs-of-requires c κs = shared (past-known (c .before .before .before .before))
@@ -164,7 +164,7 @@ needs-of-requires c κs = shared (past-known (c .before .before .before .before)
 returns-3 : tie.Need-returns-3 Inv-loop μ-loop
 returns-3 c =
     λ t b. let n = c .before in let m = n .before .before .before .before .before in
-    looking-even (past (m .before .before) (m .load-of2 .ensures) t b) (n .needs-of .ensures) (c .if4 .taken)
+    looking-even (past (m .before .before) (m .loads-in2 .ensures) t b) (n .needs-of .ensures) (c .if4 .taken)
 
 cast-try-at : tie.Need-cast-try-at Inv-loop μ-loop
 cast-try-at c = omega (arith, past-known (c .before .before .before .before .before .before) .soon)
@@ -182,7 +182,7 @@ loop-less c =
 loop-again : tie.Need-loop-again Inv-loop μ-loop
 loop-again c =
     let m = c .before .before .before in
-    (λ t b. past (m .before .before) (m .load-of2 .ensures) t b, c .next-end2 .ensures)
+    (λ t b. past (m .before .before) (m .loads-in2 .ensures) t b, c .next-end2 .ensures)
 
 returns-4 : tie.Need-returns-4 Inv-loop μ-loop
 returns-4 c =
@@ -195,7 +195,7 @@ goes-well-spec =
     Inv-loop
     μ-loop
     cast-slots
-    load-of-requires
+    loads-in-requires
     returns
     next-end-requires
     loop-holds
@@ -207,7 +207,7 @@ goes-well-spec =
     returns-2
     serve-requires
     pass-ends-requires
-    load-of-requires-2
+    loads-in-requires-2
     cast-if3
     needs-of-requires
     returns-3

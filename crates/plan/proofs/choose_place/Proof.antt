@@ -7,13 +7,13 @@ use native.Mathlib.Omega.{arith}
 use lib.ListN.{length, drop, getD}
 use borrow.Author.Needs.{needs}
 use Rattle.lists.specs.All.{All, all-at}
-use Rattle.plan.specs.Places.{never, placeFrom, chosenAt, place-better, place-kept, due-soon, due-never, place-end}
+use Rattle.plan.specs.Places.{noRelease, placeFrom, chosenAt, place-better, place-kept, due-soon, due-never, place-end}
 use Rattle.plan.proofs.choose_place.Statement.{statement}
 use Rattle.plan.proofs.choose_place.Tie as tie
 
 abbrev Inv-loop : tie.InvT-loop
 Inv-loop t rows lengths releases place₀ best₀ i₀ place best i =
-    (i ≤ rows) × ((best ≤ never) × (chosenAt t lengths releases ≡ placeFrom t i place best (drop i lengths) (drop i releases)))
+    (i ≤ rows) × ((best ≤ noRelease) × (chosenAt t lengths releases ≡ placeFrom t i place best (drop i lengths) (drop i releases)))
 
 abbrev μ-loop : tie.MeasureT-loop
 μ-loop t rows lengths releases place₀ best₀ i₀ place best i = rows - i
@@ -82,7 +82,7 @@ loop-again c =
           (λ w. (
             omega (arith, w .2, l .loop .inv .1 .0),
             so-far
-                ∙ place-kept (a .t) i p d never (a .lengths .now) (a .releases .now) (h .0) (h .1) (due-never (a .t) T r (w .0 .left)) (l .loop .inv .1 .0)
+                ∙ place-kept (a .t) i p d noRelease (a .lengths .now) (a .releases .now) (h .0) (h .1) (due-never (a .t) T r (w .0 .left)) (l .loop .inv .1 .0)
                 ∙ rw (w .1, w .2),
           )))
           (c .if1 .came),
@@ -94,8 +94,8 @@ returns c =
     let s = l .before in
     let a = s .args in
     let e : a .rows ≡ l .loop .i = omega arith in
-    let spare = subst (λ i. All (λ r. r ≡ never) (drop i (a .releases .now))) e (s .pre .1 .1 .1) in
-    let soon : a .t < never = omega (arith, s .pre .0 .0) in
+    let spare = subst (λ i. All (λ r. r ≡ noRelease) (drop i (a .releases .now))) e (s .pre .1 .1 .1) in
+    let soon : a .t < noRelease = omega (arith, s .pre .0 .0) in
     sym
     (l .loop .inv .1 .1
     ∙ place-end (a .t) (l .loop .i) (l .loop .place) (l .loop .best) (drop (l .loop .i) (a .lengths .now)) soon (l .loop .inv .1 .0) spare)

@@ -7,13 +7,13 @@ use lib.ListN.{length}
 use borrow.Author.Needs.{needs}
 use Rattle.lists.specs.All.{all-at}
 use Rattle.lists.specs.Spare.{Filling, filling-none, filling-more, filling-all}
-use Rattle.plan.specs.Places.{never, releasesOf}
+use Rattle.plan.specs.Places.{noRelease, releasesOf}
 use Rattle.plan.specs.Kept.{length-releases, release-at, releases-spare}
 use Rattle.plan.proofs.fill_releases.Statement.{statement}
 use Rattle.plan.proofs.fill_releases.Tie as tie
 
 abbrev Inv-loop : tie.InvT-loop
-Inv-loop releases₀ rows lengths heads i₀ releases i = Filling never (releasesOf lengths heads) rows releases i
+Inv-loop releases₀ rows lengths heads i₀ releases i = Filling noRelease (releasesOf lengths heads) rows releases i
 
 abbrev μ-loop : tie.MeasureT-loop
 μ-loop releases₀ rows lengths heads i₀ releases i = rows - i
@@ -25,7 +25,7 @@ releases-sized z = length-releases (z .args .lengths .now) (z .args .heads .now)
 loop-holds : tie.Need-loop-holds Inv-loop μ-loop
 loop-holds c =
     let a = c .args in
-    subst (λ rs. Filling never (releasesOf (a .lengths .now) (a .heads .now)) (a .rows) rs 0) (sym (c .pre .0 .0))
+    subst (λ rs. Filling noRelease (releasesOf (a .lengths .now) (a .heads .now)) (a .rows) rs 0) (sym (c .pre .0 .0))
     (filling-none (releases-sized c))
 
 mul-release-of : tie.Need-mul-release-of Inv-loop μ-loop

@@ -1,4 +1,4 @@
--- `events::load_of` meets its contract. The invariant: what kind 1 takes among the first i places. The measure is the number of places left.
+-- `events::loads_in` meets its contract. The invariant: what kind 1 takes among the first i places. The measure is the number of places left.
 -- Assumes nothing.
 use mathlib.Core.Path.{_≡_, refl, sym, ap, _∙_}
 use Prim.Native.Nat.{_*_, _-_, _≤_, _<_}
@@ -11,8 +11,8 @@ use Rattle.queue.specs.Zips.{zip, length-zip, zip-at, zip-spare}
 use Rattle.events.specs.Ends.{loadIn}
 use native.Mathlib.Omega.{arith}
 use borrow.Author.Needs.{needs}
-use Rattle.events.proofs.load_of.Statement.{statement}
-use Rattle.events.proofs.load_of.Tie as tie
+use Rattle.events.proofs.loads_in.Statement.{statement}
+use Rattle.events.proofs.loads_in.Tie as tie
 
 abbrev Inv-loop : tie.InvT-loop
 Inv-loop amounts periods used load₀ i₀ load i =
@@ -78,8 +78,8 @@ returns c =
     ∙ spare-sum 0 (λ v. v) refl (s .args .used) (zip loadIn P A)
     (zip-spare loadIn (λ p. cond-zero (eqb p 0)) (s .args .used) P A (s .pre .1 .1 .1))
 
-pub load-of-spec : {M : Type 1} → statement M
-load-of-spec =
+pub loads-in-spec : {M : Type 1} → statement M
+loads-in-spec =
     tie.close
     (tie.spec
     Inv-loop
