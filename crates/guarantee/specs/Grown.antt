@@ -91,21 +91,14 @@ module _ {B b c : ℕ} {rs : List Run} {h : Admission} {e : Entry} (p : Piece B 
       omega (arith, p .owed, p .given-transfer k, g .meets other w, g .granted .extra, headroom-transfer e b k)
 
   -- ---- the completed periods of a piece
-  -- A period that was completed before is kept. One that this interval completes is the one that runs.
-  kept-whole : Kept B h → e .kind ≡ 2 → (i : ℕ) → suc i * e .period .0 ≤ suc (length (h .plans))
+  -- a period that this interval completes is the one that runs
+  new-whole : e .kind ≡ 2 → (i : ℕ) → suc i * e .period .0 ≡ suc (length (h .plans))
       → let n = had B (grown rs h) (i * e .period .0) (suc i * e .period .0) in
       (e .min .0 ≤ n) × (n ≤ e .max .0)
-  kept-whole kp k i w =
+  new-whole k i w =
       let r = l .runs other in
-      let s = same-fields e (l .request) in
-      elim (decLe (suc i * e .period .0) (length (h .plans))) [
-        | yes q ↦
-            rw (had-old B h rs (i * e .period .0) (suc i * e .period .0) q, s .period other, s .least, s .most)
-            (kp .wholes (sym (s .kind) ∙ k) i (rw (s .period other) at q))
-        | no q ↦
-            let same : i ≡ r .nth = run-only p r i (omega arith) (omega arith) in
-            rw same (omega (arith, run-has r, run-most k, run-least (omega (arith, rw same at w))))
-      ]
+      let same : i ≡ r .nth = run-only p r i (omega arith) (omega arith) in
+      rw same (omega (arith, run-has r, run-most k, run-least (omega (arith, rw same at w))))
 
   -- a transfer has one period, the one that runs
   kept-transfer : Held B e → e .kind ≡ 3 → e .period .0 ≤ suc (length (h .plans)) → had B (grown rs h) 0 (e .period .0) ≡ e .min .0
@@ -121,8 +114,14 @@ module _ {B b c : ℕ} {rs : List Run} {h : Admission} {e : Entry} (p : Piece B 
       let one = grown-length rs h in
       record {
         fractions = λ k. absurd (other (s .kind ∙ k));
-        wholes = λ k i w. rw (s .period other, s .least, s .most) at (kept-whole kp (s .kind ∙ k) i (rw (s .period other) (omega arith)));
-        transfer = λ k w. rw (s .period other, s .least) at (kept-transfer d (s .kind ∙ k) (omega (arith, s .period other)));
+        wholes = λ k i w. elim (decLe (suc i * h .request .period) (length (h .plans))) [
+          | yes q ↦ rw (had-old B h rs (i * h .request .period) (suc i * h .request .period) q) (kp .wholes k i q)
+          | no q ↦ omega (
+            arith,
+            rw (s .period other, s .least, s .most) at (new-whole (s .kind ∙ k) i (rw (s .period other) (omega arith))),
+          )
+        ];
+        transfer = λ k w. omega (arith, rw (s .period other, s .least) at (kept-transfer d (s .kind ∙ k) (omega (arith, s .period other))));
       }
 
   -- ---- the period that runs after the interval

@@ -5,6 +5,7 @@ use mathlib.Core.Logic.{_⊎_, inl, inr, ⊎-elim}
 use mathlib.Core.Bool.{Bool, true, false, cond, not}
 use mathlib.Core.List.{List, [], _∷_, _++_, map}
 use Prim.Native.Nat.{ℕ, _*_, _≤_, zero-le}
+use native.Mathlib.Omega.{arith}
 use lib.Dec.{ltb, leb, eqb}
 use lib.ListN.{length, drop}
 use Rattle.lists.specs.Lists.{within, anyOf}
@@ -78,7 +79,7 @@ once-each : (t : Table) (c : Call) → Once (seen t c)
 unfolding seen beacon planOf timesGiven recordsOf
 once-each t (Offer q) x = zero-le
 once-each t (Withdraw s) x = zero-le
-once-each t (Beacon ws) x = go (ltb (length ws) (recordWords * mostRecords))
+once-each t (Beacon ws) x = omega (arith, go (ltb (length ws) (recordWords * mostRecords)))
   where
     go : (b : Bool)
         → (let r = cond b (refusedBeacon t ws) (plannedBeacon t ws (planOf t)) in timesGiven x (recordsOf (r .count) (r .words)) ≤ 1)
