@@ -27,7 +27,7 @@ use Rattle.between.specs.Whole.{stateRun, whole-output}
 use Rattle.guarantee.specs.History.{Call, Beacon, Seen, Planned, seen, after, history}
 use Rattle.guarantee.specs.Planned.{records-back}
 use Rattle.guarantee.specs.Proof.{tableAfter, demand3}
-use Rattle.law_shelf.specs.Segments.{Segment, Cut, goesOn, opens, cut, Refused, Cuts}
+use Rattle.law_shelf.specs.Segments.{Segment, Cut, addsRow, opens, cut, Refused, Cuts}
 use Rattle.law_shelf.specs.Segments.{memory, callsOf, rowsSeen, shown, unopened, segmentRows, leaves, commands, ShelfKeeps}
 
 -- ---- an opening answers 0 or 1
@@ -51,7 +51,7 @@ opens-zero : (u : ℕ) → eqb (openAnswer u) 0 ≡ true → openAnswer u ≡ 0
 opens-zero u = eqb-true (openAnswer u) 0
 
 -- ---- the cut
-goes-on : {c : Command} {cs : List Command} {k : Cut} → Refused c → Cuts cs k → Cuts (c ∷ cs) (goesOn c k)
+goes-on : {c : Command} {cs : List Command} {k : Cut} → Refused c → Cuts cs k → Cuts (c ∷ cs) (addsRow c k)
 goes-on {c} r h = record { all = ap (λ l. c ∷ l) (h .all); early = and r (h .early); segments = h .segments }
 
 cut-right : (cs : List Command) → Cuts cs (cut cs)

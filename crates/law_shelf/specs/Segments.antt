@@ -37,19 +37,19 @@ pub record Cut : Type 0 where
   pub segments : List Segment
 
 -- one more row in front: of openings only one that succeeds begins a segment
-abbrev pub goesOn : Command → Cut → Cut
-goesOn c k = record { early = c ∷ k .early; segments = k .segments }
+abbrev pub addsRow : Command → Cut → Cut
+addsRow c k = record { early = c ∷ k .early; segments = k .segments }
 
 abbrev pub opens : (succeeds : Bool) → ℕ → Cut → Cut
 opens true u k = record { early = []; segments = record { units = u; rows = k .early } ∷ k .segments }
-opens false u k = goesOn (Open u) k
+opens false u k = addsRow (Open u) k
 
 abbrev pub inFront : Command → Cut → Cut
 inFront (Open u) k = opens (eqb (openAnswer u) 0) u k
-inFront (OfferRow q) k = goesOn (OfferRow q) k
-inFront (WithdrawRow s) k = goesOn (WithdrawRow s) k
-inFront BeaconRow k = goesOn BeaconRow k
-inFront OtherForm k = goesOn OtherForm k
+inFront (OfferRow q) k = addsRow (OfferRow q) k
+inFront (WithdrawRow s) k = addsRow (WithdrawRow s) k
+inFront BeaconRow k = addsRow BeaconRow k
+inFront OtherForm k = addsRow OtherForm k
 
 unfoldable pub cut : List Command → Cut
 cut [] = record { early = []; segments = [] }
