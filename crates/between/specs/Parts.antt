@@ -89,8 +89,12 @@ leftOf chunk taken = take (length chunk - taken) (drop taken chunk)
 left-is : (chunk : List ℕ) (taken : ℕ) → leftOf chunk taken ≡ drop taken chunk
 left-is chunk taken = let h = length-drop taken chunk in take-all (length chunk - taken) (drop taken chunk) (omega arith)
 
-left-length : (chunk : List ℕ) (taken : ℕ) → length (leftOf chunk taken) ≡ length chunk - taken
+pub left-length : (chunk : List ℕ) (taken : ℕ) → length (leftOf chunk taken) ≡ length chunk - taken
 left-length chunk taken = ap length (left-is chunk taken) ∙ length-drop taken chunk
+
+-- the first bytes of a chunk, and then some of those that are left
+pub taken-then : (chunk : List ℕ) (taken n : ℕ) → take (taken + n) chunk ≡ take taken chunk ++ take n (leftOf chunk taken)
+taken-then chunk taken n = take-add taken n chunk ∙ ap (λ l. take taken chunk ++ take n l) (sym (left-is chunk taken))
 
 module _ (cur : Shelf) (chunk : List ℕ) (taken : ℕ) {cut : Cut} (e : cut ≡ cutOf cur (leftOf chunk taken)) where
   pub cut-some : taken < length chunk → (taken + cut .taken ≤ length chunk) × (0 < cut .taken)
@@ -109,8 +113,7 @@ module _ (cur : Shelf) (chunk : List ℕ) (taken : ℕ) {cut : Cut} (e : cut ≡
         → Done s (take (taken + cut .taken) chunk) plan out at after end words₂ bytes₂
     done-cut {after} {words₂} {bytes₂} {end} f =
         let q : take (taken + cut .taken) chunk ≡ take taken chunk ++ cutBytes cur (leftOf chunk taken) =
-        take-add taken (cut .taken) chunk ∙ ap (λ l. take taken chunk ++ take (cut .taken) l) (sym (left-is chunk taken))
-        ∙ ap (λ (c : Cut). take taken chunk ++ take (c .taken) (leftOf chunk taken)) e in
+        taken-then chunk taken (cut .taken) ∙ ap (λ (c : Cut). take taken chunk ++ take (c .taken) (leftOf chunk taken)) e in
         subst (λ p. Done s p plan out at after end words₂ bytes₂) (sym q) (done-then d f)
 
     -- the row goes on after the chunk
@@ -133,14 +136,9 @@ module _ (cur : Shelf) (chunk : List ℕ) (taken : ℕ) {cut : Cut} (e : cut ≡
         let same : c ≡ commandAt cur (leftOf chunk taken) = k ∙ ap (λ (x : Cut). commandIn (x .reader .line)) e in
         rw anew (done-cut (row-answered cur (leftOf chunk taken) (ap (λ (x : Cut). x .ended) (sym e) ∙ z) (rw same at a)))
 
--- ---- the loop over the parts of a chunk: a part takes a byte where its first answer has room
-pub part-some : (s : Shelf) (chunk : List ℕ) (taken n at : ℕ) {next room : ℕ} → taken < length chunk → at + answerMost ≤ room
-    → next ≡ at + length (chunkRows s (take n (leftOf chunk taken)))
-    → (n ≤ length (leftOf chunk taken)) × ((next ≤ room) × (next + answerMost ≤ room → n ≡ length (leftOf chunk taken)))
-    → (taken + n ≤ length chunk) × (0 < n)
+-- ---- a part of a chunk takes a byte where its first answer has room
+pub part-some : (s : Shelf) (chunk : List ℕ) (n at : ℕ) {next room : ℕ} → 0 < length chunk → at + answerMost ≤ room
+    → next ≡ at + length (chunkRows s (take n chunk)) → (next + answerMost ≤ room → n ≡ length chunk) → 0 < n
 unfolding chunkRows printed linesIn
-part-some s chunk taken zero at h spare e (most, (inside, all)) =
-    let l = left-length chunk taken in
-    let none = all (omega arith) in
-    absurd (omega arith)
-part-some s chunk taken (suc n) at h spare e (most, (inside, all)) = let l = left-length chunk taken in (omega arith, omega arith)
+part-some s chunk zero at h spare e all = let none = all (omega arith) in absurd (omega arith)
+part-some s chunk (suc n) at h spare e all = omega arith

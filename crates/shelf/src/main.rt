@@ -1,93 +1,112 @@
 // The program `shelf`: rows of calls on standard input, rows of answers and plans on standard output. Document 01, "Reading, lending,
-// printing". What it does with each byte is in crate interpreter; here are the reads and writes.
-ghost use Prim.Native.Nat.{_≤_};
-ghost use lib.ListN.{length};
+// printing". What it does with each byte is in crate interpreter; here are the reads and writes, and what is handed from one to the next.
+ghost use mathlib.Core.Path.{_≡_};
+ghost use mathlib.Core.Bool.{true, false};
+ghost use Prim.Native.Nat.{_≤_, _<_};
+ghost use lib.ListN.{length, take};
+ghost use Rattle.io.specs.Counts.{clamped};
+ghost use Rattle.printing.specs.Printed.{headerRow, written};
 ghost use Rattle.meaning.specs.Room.{planWords, answerMost, Ready};
+ghost use Rattle.between.specs.Cutting.{firstShelf, lastRows};
+ghost use Rattle.handing.specs.Flows.{Flowed};
+ghost use Rattle.shelf.specs.Runs.{ends, readsOn, mostBytes, Ran};
 use between::Shelf;
+use handing::Flow;
 
-struct Flow {
-    shelf: Shelf,
-    going: bool,
+// What became of all that was read, how many bytes that is, and what the last read answered.
+struct Run {
+    flow: Flow,
+    given: usize,
+    got: isize,
 }
 
-// Writes out the rows that are printed. Where that fails, says so and answers false.
-fn put(out: &[u8], at: usize) -> bool
-    requires { ⌜ at ≤ length (now out) ⌝ }
-{
-    if io::write_all(1, &out[..at]) {
-        return true;
-    }
-    io::write_all(2, b"shelf: writing failed\n");
-    false
-}
-
-// Serves a whole chunk, part after part. Each is written out before the next one and at the chunk's end, so that no answer waits for
-// the next chunk.
+// Serves a whole chunk, part after part, as long as every write takes what it is handed. So no answer waits for the next chunk.
 fn serve_chunk(s: Shelf, chunk: &[u8], plan: &mut [u32], out: &mut [u8]) -> Flow
     requires { ⌜ Ready (s .state) ⌝ }
     requires { ⌜ planWords ≤ length (now plan) ⌝ }
     requires { ⌜ answerMost ≤ length (now out) ⌝ }
-    ensures { λ r. ⌜ Ready (r .shelf .state) ⌝ }
+    ensures is { λ r. ⌜ Flowed false s (take (r .taken) (now (chunk .entry))) (now (plan .entry)) r (now (plan .exit)) ⌝ }
+    ensures all { λ r. ⌜ (r .well ≡ true → r .taken ≡ length (now (chunk .entry))) ⌝ }
+    ensures formed { λ r. ⌜ Ready (r .shelf .state) ⌝ }
 {
-    let mut shelf = s;
-    let mut taken: usize = 0;
-    while taken < chunk.len() {
-        let part = interpreter::serve_rows(shelf, &chunk[taken..], plan, out, 0);
-        let next = part.shelf;
-        shelf = next;
-        taken += part.taken;
-        if !put(out, part.at) {
-            return Flow {
-                shelf,
-                going: false,
-            };
-        }
+    let mut flow = Flow {
+        shelf: s,
+        taken: 0,
+        put: 0,
+        well: true,
+    };
+    while flow.taken < chunk.len() && flow.well {
+        let taken = flow.taken;
+        let shelf = flow.shelf;
+        let part = handing::serve_part(shelf, &chunk[taken..], plan, out);
+        flow = handing::joined(flow, part);
     }
-    Flow { shelf, going: true }
+    flow
 }
 
-// One read. At the end of the input the last row may still want its answer.
-fn serve_some(s: Shelf, input: &mut [u8], plan: &mut [u32], out: &mut [u8]) -> Flow
+// What a read answered is served: nothing where it failed, the last row at the end of the input, otherwise the bytes that it gave.
+fn serve_some(s: Shelf, got: isize, input: &[u8], plan: &mut [u32], out: &mut [u8]) -> Flow
     requires { ⌜ Ready (s .state) ⌝ }
     requires { ⌜ planWords ≤ length (now plan) ⌝ }
     requires { ⌜ answerMost ≤ length (now out) ⌝ }
-    ensures { λ r. ⌜ Ready (r .shelf .state) ⌝ }
+    ensures is { λ r. ⌜ Flowed (ends got) s (take (r .taken) (now (input .entry))) (now (plan .entry)) r (now (plan .exit)) ⌝ }
+    ensures all { λ r. let n = clamped got (length (now (input .entry))) in ⌜ (r .taken ≤ n) × (r .well ≡ true → r .taken ≡ n) ⌝ }
+    ensures last { λ _. ⌜ (ends got ≡ true → now (out .exit) ≡ written (now (out .entry)) 0 (lastRows s)) ⌝ }
+    ensures formed { λ r. ⌜ Ready (r .shelf .state) ⌝ }
 {
-    let got = libc::read(0, input);
     if got < 0 {
         io::write_all(2, b"shelf: reading failed\n");
         return Flow {
             shelf: s,
-            going: false,
+            taken: 0,
+            put: 0,
+            well: true,
         };
     }
     if got == 0 {
-        let at = ending::finish(s, plan, out, 0);
-        put(out, at);
+        let last = handing::serve_last(s, plan, out);
         return Flow {
             shelf: s,
-            going: false,
+            taken: 0,
+            put: last.bytes,
+            well: last.well,
         };
     }
     let n = io::count(got, input);
     serve_chunk(s, &input[..n], plan, out)
 }
 
-// A proved loop has to end, and nothing says that the input does. So it counts its turns down, from a number that no run uses up.
-fn serve_all(input: &mut [u8], plan: &mut [u32], out: &mut [u8])
+// A number of bytes that no input comes to.
+const MOST: usize = 9223372036854775807;
+
+// Read after read, once the header has been handed on. A proved loop has to end, and nothing says that the input does: this one ends after
+// MOST bytes at the latest.
+fn serve_all(s: Shelf, header: usize, input: &mut [u8], plan: &mut [u32], out: &mut [u8]) -> Run
+    requires { ⌜ s ≡ firstShelf ⌝ }
+    requires { ⌜ (header ≡ length headerRow) × (take header (now out) ≡ headerRow) ⌝ }
     requires { ⌜ planWords ≤ length (now plan) ⌝ }
     requires { ⌜ answerMost ≤ length (now out) ⌝ }
+    ensures is { λ r. ⌜ Ran (ends (r .got)) (now (plan .entry)) (r .flow) (now (plan .exit)) ⌝ }
+    ensures all { λ r. ⌜ (r .flow .taken ≤ r .given) × (r .flow .well ≡ true → r .flow .taken ≡ r .given) ⌝ }
+    ensures stops { λ r. ⌜ (r .given < mostBytes → readsOn (r .got) (r .flow .well) ≡ false) ⌝ }
 {
-    let mut shelf = between::first_shelf();
-    let mut turns = u64::MAX;
-    while turns > 0 {
-        let flow = serve_some(shelf, input, plan, out);
-        if !flow.going {
-            return;
+    let mut flow = Flow {
+        shelf: s,
+        taken: 0,
+        put: header,
+        well: true,
+    };
+    let mut given: usize = 0;
+    loop {
+        let got = libc::read(0, input);
+        let more = io::count(got, input);
+        let shelf = flow.shelf;
+        let next = serve_some(shelf, got, input, plan, out);
+        flow = handing::joined(flow, next);
+        given += more;
+        if more == 0 || !flow.well || given >= MOST {
+            return Run { flow, given, got };
         }
-        let next = flow.shelf;
-        shelf = next;
-        turns -= 1;
     }
 }
 
@@ -96,7 +115,9 @@ fn main() {
     let mut out = [0u8; 131072];
     let mut plan = [0u32; 4096];
     let at = printing::header_row(&mut out, 0);
-    if put(&out, at) {
-        serve_all(&mut input, &mut plan, &mut out);
+    let header = handing::put(&out, at);
+    if header.well {
+        let first = between::first_shelf();
+        serve_all(first, header.bytes, &mut input, &mut plan, &mut out);
     }
 }
