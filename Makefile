@@ -20,9 +20,9 @@ show:
 	$(call prove,shelf)
 	@target/bin/shelf < reference/data/school.in
 
-# The gate: layout, the second implementation's own tests and its stored rows, the stored pictures; then every proof from nothing, every
-# must-fail edit and every program; then, over what was just proved, the calls from C and from Rust, and the program where reads and writes
-# fail. The last line is that of rt ci.
+# The gate: layout, the second implementation's own tests and its stored rows, the stored pictures; the names in documents and comments, and what
+# must be believed; then every proof from nothing, every must-fail edit and every program, and why each edit was refused; then, over what was
+# just proved, the calls from C and from Rust, and the program where reads and writes fail. The last line is that of rt ci.
 # Crates and edits are checked in batches, each of which waits for its slowest: batches of six keep two cores at work. A check unpacks some
 # 200 MB of small files: in memory, where it has 8 GB for them and programs may run from there. The recipe says make and not its variable,
 # since a dry run, make -n, runs a line that has the variable.
@@ -30,7 +30,10 @@ scratch = $(shell awk '$$2 == "/dev/shm" && $$4 !~ /noexec/' /proc/mounts | grep
     | awk 'NR == 2 && $$1 > 8000000 { print "/dev/shm" }')
 test: reference compared
 	@rt fmt --check
-	@log=$$(mktemp) && RT_JOBS=6 TMPDIR=$(or $(TMPDIR),$(scratch),/tmp) rt ci | tee $$log && make bindings failures && tail -n 1 $$log && rm $$log
+	@tests/names
+	@tests/believed
+	@log=$$(mktemp) && RT_JOBS=6 TMPDIR=$(or $(TMPDIR),$(scratch),/tmp) rt ci | tee $$log && tests/edits && make bindings failures \
+	    && tail -n 1 $$log && rm $$log
 
 reference:
 	@cargo test --offline --release --quiet --manifest-path reference/Cargo.toml
@@ -67,14 +70,14 @@ fuzz:
 
 # The proved calls as a library for other languages.
 archive:
-	$(call prove,host)
-	@rt staticlib host > target/log/staticlib.out 2>&1 || (tail -n 20 target/log/staticlib.out >&2 && false)
+	$(call prove,gelmush)
+	@rt staticlib gelmush > target/log/staticlib.out 2>&1 || (tail -n 20 target/log/staticlib.out >&2 && false)
 
 # The exported calls: case 1 from C, held to its stored rows; random calls from C and from Rust, held to the second implementation; and the
 # README's program in Rust.
 bindings: archive
 	@for program in case1 calls; do cc -std=c11 -Wall -Wextra -Werror -O2 -Ibindings/c -o target/$$program bindings/c/$$program.c \
-	    target/staticlib/libhost.a || exit 1; done
+	    target/staticlib/libgelmush.a || exit 1; done
 	@target/case1 | diff bindings/c/case1.out -
 	@cargo test --offline --release --quiet --manifest-path bindings/rust/Cargo.toml
 
@@ -89,6 +92,6 @@ bench: archive
 
 # Instructions that four beacons on the same 32 requests cost, first at 15 time units, then at 1,000 (valgrind's callgrind).
 cost:
-	$(call prove,cost)
-	@out=$$(mktemp -d) && valgrind -q --tool=callgrind --callgrind-out-file=$$out/cg --zero-before='cost::four_beacons' \
-	    --dump-after='cost::four_beacons' target/bin/cost > /dev/null && grep -h '^summary' $$out/cg.1 $$out/cg.2 && rm -r $$out
+	$(call prove,demo_cost)
+	@out=$$(mktemp -d) && valgrind -q --tool=callgrind --callgrind-out-file=$$out/cg --zero-before='demo_cost::four_beacons' \
+	    --dump-after='demo_cost::four_beacons' target/bin/demo_cost > /dev/null && grep -h '^summary' $$out/cg.1 $$out/cg.2 && rm -r $$out

@@ -9,24 +9,26 @@ use native.Mathlib.Omega.{arith}
 use lib.Dec.{eqb}
 use borrow.Author.Tests.{eqb-true}
 use lib.ListN.{length, take, length-replicate}
-use Rattle.lists.specs.Lists.{within, concatMap}
-use Rattle.lists.specs.Tests.{clash}
-use Rattle.lists.specs.All.{stop, and, all-map}
-use Rattle.model.specs.Requests.{refusal}
-use Rattle.model.specs.declared.Table.{Table}
-use Rattle.commands.specs.Commands.{openVerb}
-use Rattle.commands.specs.declared.Command.{Command}
-use Rattle.commands.specs.declared.Command.the-variants.{Open, Offer as OfferRow, Withdraw as WithdrawRow, Beacon as BeaconRow, OtherForm}
-use Rattle.rules.specs.Calls.{openAnswer, opened, offered, withdrawn, planOf, advanced, Beacon as Sent}
-use Rattle.printing.specs.Printed.{headerRow, plainRow}
-use Rattle.meaning.specs.declared.State.{State}
-use Rattle.meaning.specs.Meaning.{firstState, withTable, stateAfter, rowsFor, printed, outputOf}
-use Rattle.meaning.specs.Room.{planWords}
-use Rattle.meaning.specs.Plans.{planned}
-use Rattle.between.specs.Whole.{stateRun, whole-output}
-use Rattle.guarantee.specs.History.{Call, Beacon, Seen, Planned, seen, after, history}
-use Rattle.guarantee.specs.Planned.{records-back}
-use Rattle.guarantee.specs.Proof.{tableAfter, demand3}
+use Rattle.spec_lists.specs.Lists.{within, concatMap}
+use Rattle.base_lists.specs.Tests.{clash}
+use Rattle.spec_lists.specs.All.{stop, and}
+use Rattle.base_lists.specs.All.{all-map}
+use Rattle.spec_model.specs.Requests.{refusal}
+use Rattle.spec_model.specs.declared.Table.{Table}
+use Rattle.spec_shelf.specs.Commands.{openVerb}
+use Rattle.spec_shelf.specs.declared.Command.{Command}
+use Rattle.spec_shelf.specs.declared.Command.the-variants.{Open, Offer as OfferRow, Withdraw as WithdrawRow, Beacon as BeaconRow, OtherForm}
+use Rattle.spec_rules.specs.Calls.{openAnswer, opened, offered, withdrawn, planOf, advanced, Beacon as Sent}
+use Rattle.spec_shelf.specs.Printed.{headerRow, plainRow}
+use Rattle.spec_shelf.specs.declared.State.{State}
+use Rattle.spec_shelf.specs.Meaning.{firstState, withTable, stateAfter, rowsFor, printed, outputOf}
+use Rattle.spec_shelf.specs.Room.{planWords}
+use Rattle.law_rows.specs.Plans.{planned}
+use Rattle.shelf_state.specs.Whole.{stateRun, whole-output}
+use Rattle.spec_demand.specs.History.{Call, Beacon, Seen, Planned, seen, after, history}
+use Rattle.law_demand.specs.Planned.{records-back}
+use Rattle.spec_demand.specs.History.{tableAfter}
+use Rattle.law_demand.specs.Proof.{demand3}
 use Rattle.law_shelf.specs.Segments.{Segment, Cut, addsRow, opens, cut, Refused, Cuts}
 use Rattle.law_shelf.specs.Segments.{memory, callsOf, rowsSeen, shown, unopened, segmentRows, leaves, commands, ShelfKeeps}
 

@@ -7,23 +7,23 @@ use mathlib.Core.List.{List, [], _∷_, _++_, map}
 use Prim.Native.Nat.{ℕ}
 use lib.Dec.{eqb}
 use lib.ListN.{length, take, drop, replicate}
-use Rattle.lists.specs.Lists.{concatMap}
-use Rattle.lists.specs.All.{All}
-use Rattle.text.specs.Rows.{rowsOf}
-use Rattle.commands.specs.Commands.{openVerb, offerVerb, withdrawVerb, beaconVerb, commandOf}
-use Rattle.commands.specs.declared.Command.{Command}
-use Rattle.commands.specs.declared.Command.the-variants.{Open, Offer as OfferRow, Withdraw as WithdrawRow, Beacon as BeaconRow, OtherForm}
-use Rattle.model.specs.declared.Table.{Table}
-use Rattle.rules.specs.Calls.{openAnswer, opened}
-use Rattle.printing.specs.Printed.{headerRow, plainRow, streamRow}
-use Rattle.meaning.specs.declared.State.{State}
-use Rattle.meaning.specs.Meaning.{firstState, withTable, rowVerb, slotRowOf, outputOf}
-use Rattle.meaning.specs.Room.{planWords}
-use Rattle.between.specs.Cutting.{firstShelf}
-use Rattle.between.specs.Whole.{stateRun, served}
-use Rattle.guarantee.specs.History.{Call, Offer, Withdraw, Beacon, Seen, Offered, Withdrew, Planned, seen, after, history}
-use Rattle.guarantee.specs.Demand.{Demanded}
-use Rattle.guarantee.specs.Proof.{tableAfter}
+use Rattle.spec_lists.specs.Lists.{concatMap}
+use Rattle.spec_lists.specs.All.{All}
+use Rattle.spec_text.specs.Rows.{rowsOf}
+use Rattle.spec_shelf.specs.Commands.{openVerb, offerVerb, withdrawVerb, beaconVerb, commandOf}
+use Rattle.spec_shelf.specs.declared.Command.{Command}
+use Rattle.spec_shelf.specs.declared.Command.the-variants.{Open, Offer as OfferRow, Withdraw as WithdrawRow, Beacon as BeaconRow, OtherForm}
+use Rattle.spec_model.specs.declared.Table.{Table}
+use Rattle.spec_rules.specs.Calls.{openAnswer, opened}
+use Rattle.spec_shelf.specs.Printed.{headerRow, plainRow, streamRow}
+use Rattle.spec_shelf.specs.declared.State.{State}
+use Rattle.spec_shelf.specs.Meaning.{firstState, withTable, rowVerb, slotRowOf, outputOf}
+use Rattle.spec_shelf.specs.Room.{planWords}
+use Rattle.shelf_state.specs.Cutting.{firstShelf}
+use Rattle.shelf_state.specs.Whole.{stateRun, served}
+use Rattle.spec_demand.specs.History.{Call, Offer, Withdraw, Beacon, Seen, Offered, Withdrew, Planned, seen, after, history}
+use Rattle.spec_demand.specs.Demand.{Demanded}
+use Rattle.spec_demand.specs.History.{tableAfter}
 
 -- ---- the cut
 -- a successful opening with its time units, and the rows up to the next one

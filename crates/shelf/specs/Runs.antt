@@ -10,12 +10,12 @@ use lib.IntN.{ℤ, pos, negsuc}
 use lib.ListN.{length}
 use Rattle.libc.specs.Io.{Moved}
 use Rattle.io.specs.Counts.{clamped}
-use Rattle.printing.specs.Printed.{headerRow}
-use Rattle.meaning.specs.Meaning.{outputOf}
-use Rattle.between.specs.Cutting.{firstShelf}
-use Rattle.between.specs.Whole.{chunkRows, shelfAfter, served, whole-output}
-use Rattle.handing.specs.declared.Flow.{Flow}
-use Rattle.handing.specs.Flows.{counted, rowsTo, planTo, FlowedAfter}
+use Rattle.spec_shelf.specs.Printed.{headerRow}
+use Rattle.spec_shelf.specs.Meaning.{outputOf}
+use Rattle.shelf_state.specs.Cutting.{firstShelf}
+use Rattle.shelf_state.specs.Whole.{chunkRows, shelfAfter, served, whole-output}
+use Rattle.shelf_write.specs.declared.Flow.{Flow}
+use Rattle.shelf_write.specs.Flows.{counted, rowsTo, planTo, FlowedAfter}
 
 -- ---- what a read answers
 -- no byte: the input has ended

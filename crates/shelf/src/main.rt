@@ -1,17 +1,17 @@
 // The program `shelf`: rows of calls on standard input, rows of answers and plans on standard output. Document 01, "Reading, lending,
-// printing". What it does with each byte is in crate interpreter; here are the reads and writes, and what is handed from one to the next.
+// printing". What it does with each byte is in crate shelf_rows; here are the reads and writes, and what is handed from one to the next.
 ghost use mathlib.Core.Path.{_≡_};
 ghost use mathlib.Core.Bool.{true, false};
 ghost use Prim.Native.Nat.{_≤_, _<_};
 ghost use lib.ListN.{length, take};
 ghost use Rattle.io.specs.Counts.{clamped};
-ghost use Rattle.printing.specs.Printed.{headerRow, written};
-ghost use Rattle.meaning.specs.Room.{planWords, answerMost, Ready};
-ghost use Rattle.between.specs.Cutting.{firstShelf, lastRows};
-ghost use Rattle.handing.specs.Flows.{Flowed};
+ghost use Rattle.spec_shelf.specs.Printed.{headerRow, written};
+ghost use Rattle.spec_shelf.specs.Room.{planWords, answerMost, Ready};
+ghost use Rattle.shelf_state.specs.Cutting.{firstShelf, lastRows};
+ghost use Rattle.shelf_write.specs.Flows.{Flowed};
 ghost use Rattle.shelf.specs.Runs.{ends, readsOn, mostBytes, Ran};
-use between::Shelf;
-use handing::Flow;
+use shelf_state::Shelf;
+use shelf_write::Flow;
 
 // What became of all that was read, how many bytes that is, and what the last read answered.
 struct Run {
@@ -38,8 +38,8 @@ fn serve_chunk(s: Shelf, chunk: &[u8], plan: &mut [u32], out: &mut [u8]) -> Flow
     while flow.taken < chunk.len() && flow.well {
         let taken = flow.taken;
         let shelf = flow.shelf;
-        let part = handing::serve_part(shelf, &chunk[taken..], plan, out);
-        flow = handing::joined(flow, part);
+        let part = shelf_write::serve_part(shelf, &chunk[taken..], plan, out);
+        flow = shelf_write::joined(flow, part);
     }
     flow
 }
@@ -64,7 +64,7 @@ fn serve_some(s: Shelf, got: isize, input: &[u8], plan: &mut [u32], out: &mut [u
         };
     }
     if got == 0 {
-        let last = handing::serve_last(s, plan, out);
+        let last = shelf_write::serve_last(s, plan, out);
         return Flow {
             shelf: s,
             taken: 0,
@@ -102,7 +102,7 @@ fn serve_all(s: Shelf, header: usize, input: &mut [u8], plan: &mut [u32], out: &
         let more = io::count(got, input);
         let shelf = flow.shelf;
         let next = serve_some(shelf, got, input, plan, out);
-        flow = handing::joined(flow, next);
+        flow = shelf_write::joined(flow, next);
         given += more;
         if more == 0 || !flow.well || given >= MOST {
             return Run { flow, given, got };
@@ -114,10 +114,10 @@ fn main() {
     let mut input = [0u8; 65536];
     let mut out = [0u8; 131072];
     let mut plan = [0u32; 4096];
-    let at = printing::header_row(&mut out, 0);
-    let header = handing::put(&out, at);
+    let at = row_print::header_row(&mut out, 0);
+    let header = shelf_write::put(&out, at);
     if header.well {
-        let first = between::first_shelf();
+        let first = shelf_state::first_shelf();
         serve_all(first, header.bytes, &mut input, &mut plan, &mut out);
     }
 }

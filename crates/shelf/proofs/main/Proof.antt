@@ -4,7 +4,7 @@ use Prim.Native.Nat.{ℕ}
 use native.Mathlib.Omega.{arith}
 use lib.ListN.{length, take}
 use lib.Seq.{take-at}
-use Rattle.printing.specs.Printed.{headerRow, written}
+use Rattle.spec_shelf.specs.Printed.{headerRow, written}
 use borrow.Author.Needs.{needs}
 use Rattle.shelf.proofs.main.Statement.{statement}
 use Rattle.shelf.proofs.main.Tie as tie

@@ -13,12 +13,12 @@ use lib.ListN.{length}
 use borrow.Author.Needs.{needs}
 use borrow.Author.Tests.{not-true, not-false, leb-true, leb-false}
 use Rattle.libc.specs.Io.{Moved}
-use Rattle.printing.specs.Printed.{headerRow}
-use Rattle.meaning.specs.Room.{Ready}
-use Rattle.meaning.specs.Ready.{ready-first}
-use Rattle.between.specs.Cutting.{firstShelf}
-use Rattle.handing.specs.declared.Flow.{Flow}
-use Rattle.handing.specs.Flows.{flowThen, flowed-none, flowed-then}
+use Rattle.spec_shelf.specs.Printed.{headerRow}
+use Rattle.spec_shelf.specs.Room.{Ready}
+use Rattle.law_rows.specs.Ready.{ready-first}
+use Rattle.shelf_state.specs.Cutting.{firstShelf}
+use Rattle.shelf_write.specs.declared.Flow.{Flow}
+use Rattle.shelf_write.specs.Flows.{flowThen, flowed-none, flowed-then}
 use Rattle.shelf.specs.Runs.{ends, mostBytes, Running, ran, running-on, gave-none, gave-some, write-failed}
 use Rattle.shelf.proofs.serve_all.Statement.{statement}
 use Rattle.shelf.proofs.serve_all.Tie as tie

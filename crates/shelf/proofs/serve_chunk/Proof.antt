@@ -6,11 +6,11 @@ use native.Mathlib.Omega.{arith}
 use denote.Ref.{now}
 use lib.ListN.{length, take, length-take}
 use borrow.Author.Needs.{needs}
-use Rattle.lists.specs.Tests.{clash}
-use Rattle.meaning.specs.Room.{Ready}
-use Rattle.between.specs.Parts.{left-length}
-use Rattle.handing.specs.declared.Flow.{Flow}
-use Rattle.handing.specs.Flows.{Flowed, flowThen, flowed-none, flowed-part}
+use Rattle.base_lists.specs.Tests.{clash}
+use Rattle.spec_shelf.specs.Room.{Ready}
+use Rattle.shelf_state.specs.Parts.{left-length}
+use Rattle.shelf_write.specs.declared.Flow.{Flow}
+use Rattle.shelf_write.specs.Flows.{Flowed, flowThen, flowed-none, flowed-part}
 use Rattle.shelf.proofs.serve_chunk.Statement.{statement}
 use Rattle.shelf.proofs.serve_chunk.Tie as tie
 

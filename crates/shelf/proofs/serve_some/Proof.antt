@@ -13,10 +13,10 @@ use lib.ListN.{length, take, length-take}
 use lib.Seq.{take-take}
 use lib.Signed.{ltZ}
 use borrow.Author.Tests.{ltb-true}
-use Rattle.lists.specs.Tests.{clash}
+use Rattle.base_lists.specs.Tests.{clash}
 use Rattle.io.specs.Counts.{clamped}
-use Rattle.between.specs.Sizes.{last-most}
-use Rattle.handing.specs.Flows.{flowed-none, flowed-last}
+use Rattle.shelf_state.specs.Sizes.{last-most}
+use Rattle.shelf_write.specs.Flows.{flowed-none, flowed-last}
 use Rattle.shelf.specs.Runs.{ends}
 use borrow.Author.Needs.{needs}
 use Rattle.shelf.proofs.serve_some.Statement.{statement}

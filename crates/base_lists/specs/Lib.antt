@@ -1,0 +1,9 @@
+pub mod Tests
+pub mod All
+pub mod Sums
+pub mod Most
+pub mod Picked
+pub mod Sorted
+pub mod Loops
+pub mod Spare
+pub mod First

@@ -1,0 +1,37 @@
+-- `beacon_plan::extend_run` meets its contract: the run grows, or is written before another begins. Assumes nothing.
+use mathlib.Core.Path.{sym, _∙_}
+use borrow.Author.Needs.{needs}
+use Rattle.beacon_plan.specs.Pens.{named, on-grown, on-anew}
+use Rattle.beacon_plan.proofs.extend_run.Statement.{statement}
+use Rattle.beacon_plan.proofs.extend_run.Tie as tie
+
+run-grows-requires : tie.Need-run-grows-requires
+run-grows-requires c κs = search needs
+
+add-grown : tie.Need-add-grown
+add-grown c = search needs
+
+returns : tie.Need-returns
+returns c =
+    let a = c .before .before .before .before .args in
+    let grown = sym (c .before .before .run-grows .ensures) ∙ c .before .if1 .taken in
+    on-grown (a .pen) (named (a .stream) (a .job)) (a .t) (a .n) (a .plan .now) grown
+
+put-run-requires : tie.Need-put-run-requires
+put-run-requires c κs = search needs
+
+same-length : tie.Need-same-length
+same-length c = search needs
+
+returns-2 : tie.Need-returns-2
+returns-2 c =
+    let w = c .before .before in
+    let a = w .before .before .before .before .before .args in
+    let ended = sym (w .before .before .before .run-grows .ensures) ∙ w .before .before .if1 .left in
+    let e = w .put-run .ensures in
+    on-anew (a .pen) (named (a .stream) (a .job)) (a .t) (a .n) _ (a .plan .now) _ ended (e .0) (e .1)
+
+pub extend-run-spec : {M : Type 1} → statement M
+extend-run-spec =
+    tie.close
+    (tie.spec run-grows-requires add-grown returns put-run-requires same-length returns-2)

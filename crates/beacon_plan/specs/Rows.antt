@@ -1,0 +1,53 @@
+-- Rows of jobs, one row for each stream of an interval, in the order of the tie rules: their jobs, and the plan of these by steps D
+-- and E. What is asked of rows. Assumes nothing.
+use mathlib.Core.Path.{_≡_}
+use mathlib.Core.Bool.{Bool}
+use mathlib.Core.List.{List, [], _∷_, _++_}
+use Prim.Native.Nat.{ℕ, suc, _*_, _≤_}
+use lib.Dec.{ltb}
+use lib.ListN.{length, drop, replicate}
+use Rattle.spec_lists.specs.Lists.{keep}
+use Rattle.spec_lists.specs.All.{All}
+use Rattle.spec_rules.specs.Slots.{Job, jobAt, slotsFrom, Run, runsFrom}
+use Rattle.law_slots.specs.Choice.{Keys}
+
+-- the jobs of one row, from job j on, each with its own need
+unfoldable pub rowFrom : (stream T j : ℕ) → List ℕ → List Job
+rowFrom s T j [] = []
+rowFrom s T j (n ∷ ns) = jobAt s T n j ∷ rowFrom s T (suc j) ns
+
+-- the jobs of the rows in order
+unfoldable pub rowJobs : (streams lengths : List ℕ) (needs : List (List ℕ)) → List Job
+rowJobs [] Ts nss = []
+rowJobs (s ∷ ss) [] nss = []
+rowJobs (s ∷ ss) (T ∷ Ts) [] = []
+rowJobs (s ∷ ss) (T ∷ Ts) (ns ∷ nss) = rowFrom s T 0 ns ++ rowJobs ss Ts nss
+
+-- the plan of an interval of b slots
+unfoldable pub rowPlan : (b : ℕ) (streams lengths : List ℕ) (needs : List (List ℕ)) → List Run
+rowPlan b ss Ts nss = runsFrom 0 (slotsFrom b 0 (rowJobs ss Ts nss))
+
+-- jobs of T slots, at most sixteen of them in b slots
+pub record Length (b T : ℕ) : Type 0 where
+  pub some : 1 ≤ T
+  pub most : T ≤ b
+  pub few : b ≤ 16 * T
+
+-- those that need something
+abbrev pub unfinished : Job → Bool
+unfinished j = ltb 0 (j .need)
+
+-- no two jobs that need something have one name; rows of free places need nothing, so there names may be the same
+pub record Rows (b : ℕ) (streams lengths : List ℕ) (needs : List (List ℕ)) : Type 0 where
+  pub short : b ≤ 1024000
+  pub each : All (Length b) lengths
+  pub names : Keys (keep unfinished (rowJobs streams lengths needs))
+
+-- an array with an element for each of 32 rows, which is d from `rows` on
+abbrev pub Padded : {A : Type 0} (rows : ℕ) (d : A) → List A → Type 0
+Padded rows d xs = (length xs ≡ 32) × ((rows ≤ 32) × All (λ x. x ≡ d) (drop rows xs))
+
+-- every row from `rows` on has jobs as long as the interval, which need nothing
+pub record Spare (b rows : ℕ) (Ts : List ℕ) (nss : List (List ℕ)) : Type 0 where
+  pub lengths : All (λ T. T ≡ b) (drop rows Ts)
+  pub needs : All (λ ns. ns ≡ replicate 16 0) (drop rows nss)

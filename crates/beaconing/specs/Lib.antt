@@ -1,2 +1,0 @@
-pub mod Beacons
-pub mod Turns

@@ -1,0 +1,35 @@
+-- The table is the call's, and an offer keeps it well formed. Assumes nothing.
+use mathlib.Core.Path.{sym, subst}
+use borrow.Author.Needs.{needs}
+use Rattle.spec_rules.specs.WellFormed.{WellFormed}
+use Rattle.law_ahead.specs.Formed.{offered-formed}
+use Rattle.demo_calls.proofs.offer.Statement.{statement}
+use Rattle.demo_calls.proofs.offer.Tie as tie
+
+offer-requires : tie.Need-offer-requires
+offer-requires c κs = search needs
+
+slice-aggregate-stream-row : tie.Need-slice-aggregate-stream-row
+slice-aggregate-stream-row c = search needs
+
+offer-number-requires : tie.Need-offer-number-requires
+offer-number-requires c κs = search needs
+
+stream-row-requires : tie.Need-stream-row-requires
+stream-row-requires c κs = search needs
+
+returns : tie.Need-returns
+returns c =
+    let o = c .before .before .before .before in
+    let e = o .offer .ensures .1 in
+    (e, subst WellFormed (sym e) (offered-formed _ _ (o .before .pre)))
+
+pub offer-spec : {M : Type 1} → statement M
+offer-spec =
+    tie.close
+    (tie.spec
+    offer-requires
+    slice-aggregate-stream-row
+    offer-number-requires
+    stream-row-requires
+    returns)

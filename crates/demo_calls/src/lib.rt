@@ -1,0 +1,192 @@
+// The planner's calls, each with its row on standard output: the verb, the stream of an offer or withdrawal, and the answer's number;
+// each record of a plan is a row `slot`. The fields are those of document 01, "Reading, lending, printing"; a row ends with a line feed.
+// What is printed is no part of a contract: a program over this crate runs the proved calls, and its run is held to the rows that are
+// stored beside it.
+ghost use mathlib.Core.Path.{_≡_};
+ghost use mathlib.Core.Bool.{cond, true};
+ghost use Prim.Native.Nat.{_/_};
+ghost use lib.Dec.{eqb};
+ghost use lib.ListN.{length};
+ghost use Rattle.spec_lists.specs.Lists.{within};
+ghost use Rattle.spec_rules.specs.Calls.{recordWords, openAnswer, opened, offered, heldAnswer, withdrawn, beacon};
+ghost use Rattle.spec_rules.specs.Reading.{enquired, windowAnswer, windowPart};
+ghost use Rattle.spec_rules.specs.WellFormed.{WellFormed};
+ghost use Rattle.spec_model.specs.Numbers.{openNumber, heldNumber, beaconNumber};
+ghost use Rattle.spec_rules.specs.Tables.{noTable};
+ghost use Rattle.spec_model.specs.Six.{request};
+use call_beacon::Beaconing;
+use call_held::Enquiry;
+use call_open::Opening;
+use spec_model::Entry;
+use spec_model::Table;
+
+pub fn line(text: &[u8]) {
+    io::write_all(1, text);
+    io::write_all(1, b"\n");
+}
+
+fn number(n: u32) {
+    io::print_decimal(1, n as u64);
+}
+
+fn field(n: u32) {
+    number(n);
+    io::write_all(1, b",");
+}
+
+// Job, start and length are empty in the row of a call.
+fn end_row(answer: u32) {
+    io::write_all(1, b",,,");
+    number(answer);
+    io::write_all(1, b"\n");
+}
+
+pub fn plain_row(verb: &[u8], answer: u32) {
+    io::write_all(1, verb);
+    io::write_all(1, b",,");
+    end_row(answer);
+}
+
+pub fn stream_row(verb: &[u8], stream: u32, answer: u32) {
+    io::write_all(1, verb);
+    io::write_all(1, b",");
+    field(stream);
+    end_row(answer);
+}
+
+// The i-th record of a plan, where the plan has that many words.
+fn slot_row(plan: &[u32], i: usize) {
+    if plan.len() / 4 <= i {
+        return;
+    }
+    let at = 4 * i;
+    io::write_all(1, b"slot,");
+    field(plan[at]);
+    field(plan[at + 1]);
+    field(plan[at + 2]);
+    field(plan[at + 3]);
+    io::write_all(1, b"\n");
+}
+
+// The first records of a plan, and how many they are.
+pub fn slot_rows(plan: &[u32], count: usize) -> usize
+    ensures { λ r. ⌜ r ≡ count ⌝ }
+{
+    let mut i = 0;
+    while i < count {
+        slot_row(plan, i);
+        i += 1;
+    }
+    i
+}
+
+// Every field of an entry.
+pub fn entry_row(e: Entry) {
+    io::write_all(1, b"entry,");
+    field(e.stream);
+    field(e.kind);
+    field(e.parts);
+    field(e.period.0);
+    field(e.min.0);
+    field(e.max.0);
+    field(e.life.0);
+    field(e.life_left.0);
+    field(e.owed.0);
+    field(e.given.0);
+    number(e.left.0);
+    io::write_all(1, b"\n");
+}
+
+pub fn open(units: u32) -> Opening
+    ensures { λ r. ⌜ (openNumber (r .answer) ≡ openAnswer units) × (r .table ≡ cond (eqb (openAnswer units) 0) (opened units) noTable) ⌝ }
+{
+    let o = call_open::open(units);
+    let answer = o.answer;
+    plain_row(b"open", call_answers::open_number(answer));
+    o
+}
+
+// An opening that succeeds.
+pub fn table_of(units: u32) -> Table
+    requires { ⌜ within 1 1000 units ≡ true ⌝ }
+    ensures is { λ r. ⌜ r ≡ opened units ⌝ }
+    ensures formed { λ r. ⌜ WellFormed r ⌝ }
+{
+    let o = open(units);
+    o.table
+}
+
+pub fn offer(t: Table, stream: u32, kind: u32, period: u32, min: u32, max: u32, life: u32) -> Table
+    requires { ⌜ WellFormed t ⌝ }
+    ensures is { λ r. ⌜ r ≡ offered t (request stream kind period min max life) ⌝ }
+    ensures formed { λ r. ⌜ WellFormed r ⌝ }
+{
+    let o = call_offer::offer(t, stream, kind, period, min, max, life);
+    let answer = o.answer;
+    stream_row(b"offer", stream, call_answers::offer_number(answer));
+    o.table
+}
+
+pub fn withdraw(t: Table, stream: u32) -> Table
+    requires { ⌜ WellFormed t ⌝ }
+    ensures is { λ r. ⌜ r ≡ withdrawn t stream ⌝ }
+    ensures formed { λ r. ⌜ WellFormed r ⌝ }
+{
+    let w = call_held::withdraw(t, stream);
+    let answer = w.answer;
+    stream_row(b"withdraw", stream, call_answers::held_number(answer));
+    w.table
+}
+
+pub fn enquire(t: Table, stream: u32) -> Enquiry
+    requires { ⌜ WellFormed t ⌝ }
+    ensures { λ r. ⌜ (heldNumber (r .answer) ≡ heldAnswer t stream) × (r .entry ≡ enquired t stream) ⌝ }
+{
+    let q = call_held::enquire(t, stream);
+    let answer = q.answer;
+    stream_row(b"enquire", stream, call_answers::held_number(answer));
+    entry_row(q.entry);
+    q
+}
+
+// The answer alone.
+pub fn tick(t: Table, plan: &mut [u32]) -> Beaconing
+    requires { ⌜ WellFormed t ⌝ }
+    ensures is { λ r. let b = beacon t (now (plan .entry)) in
+        ⌜ (beaconNumber (r .answer) ≡ b .answer) × ((r .count ≡ b .count) × ((r .table ≡ b .table) × (now (plan .exit) ≡ b .words))) ⌝ }
+    ensures formed { λ r. ⌜ WellFormed (r .table) ⌝ }
+{
+    let b = call_beacon::beacon(t, plan);
+    let answer = b.answer;
+    plain_row(b"beacon", call_answers::beacon_number(answer));
+    b
+}
+
+// The answer, and every record of the plan.
+pub fn beacon(t: Table, plan: &mut [u32]) -> Table
+    requires { ⌜ WellFormed t ⌝ }
+    ensures is { λ r. let b = beacon t (now (plan .entry)) in ⌜ (r ≡ b .table) × (now (plan .exit) ≡ b .words) ⌝ }
+    ensures formed { λ r. ⌜ WellFormed r ⌝ }
+{
+    let b = tick(t, plan);
+    slot_rows(plan, b.count);
+    b.table
+}
+
+// A window's answer, and how many records its part has.
+pub struct Part {
+    pub answer: u32,
+    pub records: usize,
+}
+
+// The answer, and every record of the part that the window hands back.
+pub fn window(plan: &[u32], count: usize, from: u32, until: u32) -> Part
+    ensures { λ r. let words = now (plan .entry) in
+        ⌜ (r .answer ≡ windowAnswer words count from until) × (r .records ≡ length (windowPart words count from until) / recordWords) ⌝ }
+{
+    let mut answer: u32 = 0;
+    let part = plan_window::window(plan, count, from, until, &mut answer);
+    plain_row(b"window", answer);
+    let records = slot_rows(part, part.len() / 4);
+    Part { answer, records }
+}

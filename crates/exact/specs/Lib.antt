@@ -1,4 +1,0 @@
-pub mod Assignment
-pub mod Needed
-pub mod Plans
-pub mod Offer

@@ -1,2 +1,0 @@
-pub mod FieldReads
-pub mod ReadLaws

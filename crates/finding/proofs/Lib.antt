@@ -1,2 +1,0 @@
-mod Nobody
-pub mod Search

@@ -1,0 +1,96 @@
+-- Looking ahead says yes exactly where the entries fit. Assumes nothing.
+use mathlib.Core.Path.{_≡_, refl, sym, ap, ap₂, _∙_}
+use mathlib.Core.Logic.{inl, inr}
+use mathlib.Core.Bool.{Bool, true, false, cond, _&&_, _||_}
+use mathlib.Core.List.{List, [], _∷_}
+use Prim.Native.Nat.{ℕ, zero, suc, _≤_, zero-le}
+use native.Mathlib.Nat.{le-refl}
+use native.Mathlib.Decide.{ℕ-discrete}
+use native.Mathlib.Omega.{arith}
+use lib.Dec.{ltb, eqb}
+use borrow.Author.Tests.{eq-eqb, ne-eqb, ltb-false, le-ltb}
+use Rattle.spec_lists.specs.Lists.{mostOf, anyOf}
+use Rattle.base_lists.specs.Tests.{clash, and-false}
+use Rattle.spec_lists.specs.All.{All}
+use Rattle.base_lists.specs.All.{head, all-zip, most-all, any-none, none-any}
+use Rattle.base_edf.specs.Edf.{rem, left}
+use Rattle.spec_model.specs.Entries.{isPiece}
+use Rattle.spec_model.specs.declared.Entry.{Entry}
+use Rattle.spec_rules.specs.Share.{load, overfull, stepB}
+use Rattle.spec_rules.specs.Ahead.{misses, goesWell, fitsAhead}
+use Rattle.spec_rules.specs.WellFormed.{Held}
+use Rattle.law_steps.specs.Held.{held-kinds, piece-of, fraction-not}
+use Rattle.law_steps.specs.Sources.{sourceOf, fraction-source, source-rem, source-left}
+use Rattle.law_steps.specs.StepB.{stepBOf}
+use Rattle.law_ahead.specs.Moved.{Together, lifeOf, moved, no-extras, moved-together, moved-life}
+use Rattle.law_ahead.specs.Fits.{Fits, pieceOf, loads-now, fits-meets, fits-on, fits-back}
+
+-- ---- the test of a miss is the theory's
+module _ (B : ℕ) (es : List Entry) where
+  abbrev Meets : Entry → Type 0
+  Meets e = left (sourceOf e) ≤ 1 → rem (sourceOf e) ≤ pieceOf B es e
+
+  meets-not : (e : Entry) → Held B e → Meets e → misses (stepB B es) e ≡ false
+  meets-not e h m = elim (held-kinds h) [
+    | inl f ↦ rw (fraction-not e (f .kind))
+    | inr p ↦ elim (ℕ-discrete (e .left .0) 1) [
+      | yes q ↦
+          (let k : e .owed .0 ≤ stepBOf B es e =
+          omega (arith, m (omega (arith, source-left p)), source-rem p, ap (λ b. cond b (stepBOf B es e) 0) (piece-of e (p .kind))) in
+          rw (le-ltb (stepBOf B es e) (e .owed .0) k, and-false (eqb (e .left .0) 1)) (and-false (isPiece e)))
+      | no q ↦ rw (ne-eqb (e .left .0) 1 q) (and-false (isPiece e))
+    ]
+  ]
+
+  not-misses : (e : Entry) → Held B e → misses (stepB B es) e ≡ false → Meets e
+  not-misses e h m l = elim (held-kinds h) [
+    | inl f ↦ omega (arith, ap rem (fraction-source e (f .kind)))
+    | inr p ↦
+        (let one : e .left .0 ≡ 1 = omega (arith, source-left p, p .ahead) in
+        let k : ltb (stepBOf B es e) (e .owed .0) ≡ false =
+        sym (ap₂ (λ a b. a && (b && ltb (stepBOf B es e) (e .owed .0))) (piece-of e (p .kind)) (eq-eqb (e .left .0) 1 one)) ∙ m in
+        omega (arith, source-rem p, ap (λ b. cond b (stepBOf B es e) 0) (piece-of e (p .kind)), ltb-false (stepBOf B es e) (e .owed .0) k))
+  ]
+
+-- ---- n intervals
+pub fits-well : (n B : ℕ) (es : List Entry) → Together B es → Fits B es → goesWell n B es ≡ true
+unfolding goesWell
+fits-well zero B es w f = refl
+fits-well (suc n) B es w f =
+    let x = no-extras B es (w .once) in
+    ap₂ (λ (a b : Bool). cond (a || b) false (goesWell n B (moved B [] es)))
+    (le-ltb B (load es) (omega (arith, f .load 0, loads-now B es w)))
+    (none-any (misses (stepB B es)) (all-zip (λ e h m. meets-not B es e h m) (w .held) (fits-meets B [] es w x f)))
+    ∙ fits-well n B (moved B [] es) (moved-together B [] es w x) (fits-on B [] es w x f)
+
+branch : (a b r : Bool) → cond (a || b) false r ≡ true → (a ≡ false) × (b ≡ false) × (r ≡ true)
+branch true b r h = absurd (clash false h refl)
+branch false true r h = absurd (clash false h refl)
+branch false false r h = (refl, refl, h)
+
+-- nothing is held any more
+none-left : (B : ℕ) (es : List Entry) → Together B es → All (λ e. e .«life_left» .0 ≤ 0) es → Fits B es
+none-left B [] w l = record { load = λ t. zero-le; room = λ s d. zero-le }
+none-left B (e ∷ es) w l = absurd (omega (arith, head (w .held) .alive, head l))
+
+pub well-fits : (n B : ℕ) (es : List Entry) → Together B es → All (λ e. e .«life_left» .0 ≤ n) es → goesWell n B es ≡ true → Fits B es
+unfolding goesWell
+well-fits zero B es w l h = none-left B es w l
+well-fits (suc n) B es w l h =
+    let x = no-extras B es (w .once) in
+    let p = branch (overfull B es) (anyOf (misses (stepB B es)) es) (goesWell n B (moved B [] es)) h in
+    fits-back B [] es w x (ltb-false B (load es) (p .0))
+    (all-zip (λ e h m. not-misses B es e h m) (w .held) (any-none (misses (stepB B es)) es (p .1)))
+    (well-fits n B (moved B [] es) (moved-together B [] es w x) (moved-life B [] es w x n l) (p .2))
+
+-- ---- until every life is used up
+pub lives-most : (es : List Entry) → All (λ e. e .«life_left» .0 ≤ mostOf lifeOf es) es
+lives-most es = most-all lifeOf es (mostOf lifeOf es) (le-refl _)
+
+pub ahead-fits : (B : ℕ) (es : List Entry) → Together B es → fitsAhead B es ≡ true → Fits B es
+unfolding fitsAhead
+ahead-fits B es w h = well-fits (mostOf lifeOf es) B es w (lives-most es) h
+
+pub fits-ahead : (B : ℕ) (es : List Entry) → Together B es → Fits B es → fitsAhead B es ≡ true
+unfolding fitsAhead
+fits-ahead B es w f = fits-well (mostOf lifeOf es) B es w f

@@ -1,0 +1,128 @@
+-- Where the entries fit: kind 1 leaves something of every interval to come, and in what it leaves there is room for the others. Step B is
+-- a greedy step of the theory, so an interval keeps the fit and misses no deadline; and a fit after an interval without a miss shows
+-- one before it. Assumes nothing.
+use mathlib.Core.Path.{_≡_, refl, ap, subst, fun-ext, _∙_}
+use mathlib.Core.Bool.{Bool, true, false, cond}
+use mathlib.Core.List.{List}
+use Prim.Native.Nat.{ℕ, zero, suc, _*_, _-_, _/_, _≤_, zero-le}
+use native.Mathlib.Omega.{arith}
+use Rattle.spec_lists.specs.Lists.{sumOf, span}
+use Rattle.base_lists.specs.All.{all-map}
+use Rattle.base_lists.specs.Sums.{sum-ext, sum-same}
+use Rattle.base_edf.specs.Time.{due}
+use Rattle.base_edf.specs.Edf.{Source, source, rem, left, gone, next, dem, Room, Greedy, NoMiss, no-miss, room-next, greedy-total}
+use Rattle.base_edf.specs.Converse.{room-back}
+use Rattle.spec_model.specs.Entries.{isKind, isPiece}
+use Rattle.spec_model.specs.declared.Entry.{Entry}
+use Rattle.spec_rules.specs.Share.{Grant, load, slotsFor, capacity}
+use Rattle.law_steps.specs.Sources.{sourceOf, loadAt, free-source, source-next, held-sound, load-free, load-now, load-next}
+use Rattle.law_steps.specs.StepB.{stepBOf, stepB-within, stepB-due}
+use Rattle.law_ahead.specs.Moved.{Together, stepOf, moved, Extras, moved-sum}
+
+-- what kind 1 takes of the interval t intervals on, and what it leaves
+abbrev pub loadsAt : List Entry → ℕ → ℕ
+loadsAt es t = sumOf (λ (e : Entry). loadAt e t) es
+
+abbrev pub spareAt : ℕ → List Entry → ℕ → ℕ
+spareAt B es t = B - loadsAt es t
+
+pub record Fits (B : ℕ) (es : List Entry) : Type 0 where
+  pub load : (t : ℕ) → loadsAt es t ≤ B
+  pub room : Room sourceOf es (spareAt B es)
+
+-- what step B gives an entry; nothing to kind 1
+abbrev pub pieceOf : ℕ → List Entry → Entry → ℕ
+pieceOf B es e = cond (isPiece e) (stepBOf B es e) 0
+
+-- the load that step A counts
+pub loads-now : (B : ℕ) (es : List Entry) → Together B es → load es ≡ loadsAt es 0
+unfolding load
+loads-now B es w =
+    sum-ext (λ (e : Entry). cond (isKind 1 e) (e .parts * e .min .0) 0) (λ e. loadAt e 0) (all-map (λ e h. load-now h) (w .held))
+
+-- ---- step B is a greedy step
+stepB-greedy : (B : ℕ) (es : List Entry) → Together B es → Greedy sourceOf es (pieceOf B es) (capacity B es)
+unfolding sourceOf
+stepB-greedy B es w =
+    record {
+      within = all-map (λ e h. below e (isPiece e) h) (stepB-within B es (w .once));
+      first = λ d. omega (
+        arith,
+        stepB-due B es (w .once) d,
+        sum-same (λ e. due (left (sourceOf e)) d (pieceOf B es e)) (λ e. cond (isPiece e) (due (e .left .0) d (stepBOf B es e)) 0) es
+            (λ e. given e (isPiece e) d (stepBOf B es e)),
+        sum-same (λ e. due (left (sourceOf e)) d (rem (sourceOf e)))
+            (λ (e : Entry). cond (isPiece e) (due (e .left .0) d (e .owed .0)) 0) es (λ e. owed e (isPiece e) d),
+      );
+    }
+  where
+    at : Entry → Bool → Source
+    at e b = cond b (source (e .owed .0) (e .left .0) (e .min .0) (e .period .0) ((e .«life_left» .0 - e .left .0) / e .period .0)) gone
+
+    below : (e : Entry) (b : Bool) → (b ≡ true → stepBOf B es e ≤ e .owed .0) → cond b (stepBOf B es e) 0 ≤ rem (at e b)
+    below e true h = h refl
+    below e false h = zero-le
+
+    given : (e : Entry) (b : Bool) (d v : ℕ) → due (left (at e b)) d (cond b v 0) ≡ cond b (due (e .left .0) d v) 0
+    given e true d v = refl
+    given e false d v = refl
+
+    owed : (e : Entry) (b : Bool) (d : ℕ) → due (left (at e b)) d (rem (at e b)) ≡ cond b (due (e .left .0) d (e .owed .0)) 0
+    owed e true d = refl
+    owed e false d = refl
+
+-- ---- an interval
+module _ (B : ℕ) (cs : List Grant) (es : List Entry) (w : Together B es) (x : Extras B cs es) where
+  moved-loads : (t : ℕ) → loadsAt (moved B cs es) t ≡ loadsAt es (suc t)
+  moved-loads t =
+      moved-sum B cs es w x (λ e. loadAt e t) (load-free t)
+      ∙ sum-ext (λ e. loadAt (stepOf B cs es e) t) (λ e. loadAt e (suc t))
+      (all-map (λ e h. load-next B (stepBOf B es e) (slotsFor (e .stream) cs) e t h) (w .held))
+
+  moved-spare : spareAt B (moved B cs es) ≡ (λ u. spareAt B es (suc u))
+  moved-spare = fun-ext (λ t. ap (λ v. B - v) (moved-loads t))
+
+  -- what the entries ask after the interval is what their sources ask after a step
+  moved-dems : (s d : ℕ)
+      → sumOf (λ e. dem (sourceOf e) s d) (moved B cs es) ≡ sumOf (λ e. dem (next (sourceOf e) (pieceOf B es e)) s d) es
+  moved-dems s d =
+      moved-sum B cs es w x (λ e. dem (sourceOf e) s d) (ap (λ a. dem a s d) free-source ∙ none s)
+      ∙ sum-ext (λ e. dem (sourceOf (stepOf B cs es e)) s d) (λ e. dem (next (sourceOf e) (pieceOf B es e)) s d)
+      (all-map (λ e h. ap (λ a. dem a s d) (source-next B (stepBOf B es e) (slotsFor (e .stream) cs) e h)) (w .held))
+    where
+      none : (s : ℕ) → dem gone s d ≡ 0
+      none zero = refl
+      none (suc s) = refl
+
+  greedy-now : Greedy sourceOf es (pieceOf B es) (spareAt B es 0)
+  greedy-now = subst (Greedy sourceOf es (pieceOf B es)) (ap (λ v. B - v) (loads-now B es w)) (stepB-greedy B es w)
+
+  -- no deadline is missed
+  pub fits-meets : Fits B es → NoMiss sourceOf es (pieceOf B es)
+  fits-meets f = no-miss sourceOf (spareAt B es) greedy-now (f .room)
+
+  pub fits-on : Fits B es → Fits B (moved B cs es)
+  fits-on f =
+      record {
+        load = λ t. omega (arith, f .load (suc t), moved-loads t);
+        room = λ s d. omega (
+          arith,
+          moved-dems s d,
+          room-next sourceOf (spareAt B es) greedy-now (f .room) s d,
+          ap (λ c. span c s d) moved-spare,
+        );
+      }
+
+  -- and back, where kind 1 fits the interval and no deadline is missed in it
+  pub fits-back : load es ≤ B → NoMiss sourceOf es (pieceOf B es) → Fits B (moved B cs es) → Fits B es
+  fits-back l m f =
+      record {
+        load = each;
+        room = room-back sourceOf (spareAt B es) (all-map (λ e h. held-sound h) (w .held))
+            (omega (arith, greedy-total sourceOf greedy-now)) m
+            (λ s d. omega (arith, moved-dems s d, f .room s d, ap (λ c. span c s d) moved-spare));
+      }
+    where
+      each : (t : ℕ) → loadsAt es t ≤ B
+      each zero = omega (arith, loads-now B es w)
+      each (suc t) = omega (arith, f .load t, moved-loads t)

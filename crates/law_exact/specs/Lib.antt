@@ -1,0 +1,4 @@
+pub mod Entries
+pub mod Needed
+pub mod Plans
+pub mod Offer

@@ -1,0 +1,246 @@
+-- The jobs of an interval, by entry: sums and facts of all jobs are those of each entry's; no name stands twice; and where what steps
+-- A to C hand out fits the interval, its slots have room for all of them. Assumes nothing.
+use mathlib.Core.Path.{_≡_, refl, sym, ap, ap₂, _∙_}
+use mathlib.Core.Logic.{_⊎_, inl, inr, ⊎-elim}
+use mathlib.Core.Bool.{Bool, true, false, cond, not, _&&_}
+use mathlib.Core.List.{List}
+use Prim.Native.Nat.{ℕ, zero, suc, _+_, _*_, _-_, _≤_, _<_, zero-le}
+use native.Mathlib.Nat.{le-refl, le-of-eq, suc-mul, zero-mul, zero-add, mul-comm, mul-le-mul-right}
+use native.Mathlib.Decide.{ℕ-discrete}
+use native.Mathlib.Omega.{arith}
+use lib.Dec.{eqb}
+use borrow.Author.Tests.{eq-eqb, ne-eqb}
+use Rattle.spec_lists.specs.Lists.{one-if, keep, sumOf, sort}
+use Rattle.base_lists.specs.Tests.{one-if-false, one-if-most}
+use Rattle.spec_lists.specs.All.{All, stop, and}
+use Rattle.base_lists.specs.All.{head, tail, all-map, all-zip, all-both, all-of}
+use Rattle.base_lists.specs.All.{all-keep, all-kept, all-sort, all-sorted, all-append, all-left, all-right, all-concat, all-unconcat}
+use Rattle.base_lists.specs.Sums.{sum-ext, sum-le, sum-add, sum-keep, sum-sort, sum-append, sum-concat, sum-zero}
+use Rattle.base_edf.specs.Time.{due}
+use Rattle.base_edf.specs.Edf.{Source, source, later, dem}
+use Rattle.base_edf.specs.Periodic.{periodic-room}
+use Rattle.spec_model.specs.Entries.{isStream, isKind, isPiece}
+use Rattle.spec_model.specs.declared.Entry.{Entry}
+use Rattle.spec_rules.specs.Share.{load, order, jobCount, stepB, stepC}
+use Rattle.spec_rules.specs.Slots.{Job, JobName, nameOf, jobAt, jobsFrom, jobLength, jobNeed, jobsOf, lower, tieOrder, jobs, sameName}
+use Rattle.spec_rules.specs.WellFormed.{Held}
+use Rattle.law_steps.specs.Held.{Fraction, Piece, held-kinds, piece-of, not-fraction, fraction-not}
+use Rattle.law_steps.specs.StepB.{order-all, all-order, order-sum}
+use Rattle.law_steps.specs.Extras.{needs-fit}
+use Rattle.law_ahead.specs.Moved.{Together}
+use Rattle.law_slots.specs.Choice.{Keys}
+use Rattle.law_slots.specs.Service.{jobSource, JobRoom, job-dem}
+
+-- ---- jobs of one stream
+module _ (s T need : ℕ) where
+  pub from-all : {P : Job → Type 0} (n j : ℕ) → ((k : ℕ) → j ≤ k → k < j + n → P (jobAt s T need k)) → All P (jobsFrom n s T need j)
+  unfolding jobsFrom
+  from-all zero j h = stop
+  from-all (suc n) j h = and (h j (le-refl j) (omega arith)) (from-all n (suc j) (λ k l q. h k (omega arith) (omega arith)))
+
+  pub from-each : (P : Job → Type 0) (n j : ℕ) → All P (jobsFrom n s T need j) → (k : ℕ) → j ≤ k → k < j + n → P (jobAt s T need k)
+  unfolding jobsFrom
+  from-each P zero j h k l q = absurd (omega arith)
+  from-each P (suc n) j h k l q =
+      elim (ℕ-discrete j k) [
+        | yes e ↦ rw (← e) (head h)
+        | no e ↦ from-each P n (suc j) (tail h) k (omega arith) (omega arith)
+      ]
+
+  -- a sum to which one job alone adds
+  pub from-only : (f : Job → ℕ) (n j i : ℕ) → j ≤ i → i < j + n
+      → ((k : ℕ) → j ≤ k → k < j + n → (k ≡ i → ⊥) → f (jobAt s T need k) ≡ 0)
+      → sumOf f (jobsFrom n s T need j) ≡ f (jobAt s T need i)
+  unfolding jobsFrom
+  from-only f zero j i l q h = absurd (omega arith)
+  from-only f (suc n) j i l q h =
+      elim (ℕ-discrete j i) [
+        | yes e ↦ omega (
+          arith,
+          ap (λ k. f (jobAt s T need k)) e,
+          sum-zero f (from-all {P = λ x. f x ≡ 0} n (suc j) (λ k a b. h k (omega arith) (omega arith) (λ z. omega arith))),
+        )
+        | no e ↦ omega (
+          arith,
+          h j (le-refl j) (omega arith) e,
+          from-only f n (suc j) i (omega arith) (omega arith) (λ k a b z. h k (omega arith) (omega arith) z),
+        )
+      ]
+
+  -- no number stands twice
+  from-once : (n j x : ℕ) → sumOf (λ (i : Job). one-if (eqb (i .number) x)) (jobsFrom n s T need j) ≤ 1
+  unfolding jobsFrom
+  from-once zero j x = zero-le
+  from-once (suc n) j x =
+      elim (ℕ-discrete j x) [
+        | yes e ↦ omega (
+          arith,
+          one-if-most (eqb j x),
+          sum-zero (λ (i : Job). one-if (eqb (i .number) x))
+              (from-all {P = λ i. one-if (eqb (i .number) x) ≡ 0} n (suc j) (λ k a b. one-if-false (ne-eqb k x (λ z. omega arith)))),
+        )
+        | no e ↦ omega (arith, one-if-false (ne-eqb j x e), from-once n (suc j) x)
+      ]
+
+  -- a name stands at most once, and only where it names the stream
+  from-keys : (n : ℕ) (k : JobName) → sumOf (λ i. one-if (sameName (nameOf i) k)) (jobsFrom n s T need 0) ≤ one-if (eqb s (k .stream))
+  from-keys n k = omega (arith, number-only, go (eqb s (k .stream)))
+    where
+      number-only : sumOf (λ i. one-if (sameName (nameOf i) k)) (jobsFrom n s T need 0)
+          ≡ sumOf (λ (i : Job). one-if (eqb s (k .stream) && eqb (i .number) (k .number))) (jobsFrom n s T need 0)
+      number-only = sum-ext _ _ (from-all n 0 (λ i a b. refl))
+
+      go : (b : Bool) → sumOf (λ (i : Job). one-if (b && eqb (i .number) (k .number))) (jobsFrom n s T need 0) ≤ one-if b
+      go true = from-once n 0 (k .number)
+      go false = le-of-eq (sum-zero (λ (i : Job). 0) (all-of (jobsFrom n s T need 0) (λ i. refl)))
+
+  -- together they ask in a window what a periodic source asks
+  from-dem : (n j x d : ℕ) → sumOf (λ i. dem (jobSource 0 i) x d) (jobsFrom n s T need j) ≡ later (j * T) need T n x d
+  unfolding jobsFrom
+  from-dem zero j x d = refl
+  from-dem (suc n) j x d =
+      let e : suc j * T ≡ j * T + T = suc-mul j T in
+      ap₂ _+_
+      (job-dem (jobAt s T need j) x d (omega arith) ∙ ap (λ v. due x (j * T) (due v d need)) e)
+      (from-dem n (suc j) x d ∙ ap (λ v. later v need T n x d) e)
+
+-- a source whose first job runs
+later-dem : (u T m x d : ℕ) → later 0 u T (suc m) x d ≡ dem (source u T u T m) x d
+later-dem u T m zero d = ap (λ v. due v d u + later v u T m 0 d) (zero-add T)
+later-dem u T m (suc x) d = omega (arith, ap (λ v. later v u T m (suc x) d) (zero-add T))
+
+-- ---- all entries
+-- every entry is of kind 1 or a piece
+pub kinds-apart : {B : ℕ} {es : List Entry} → All (Held B) es → All (λ e. isPiece e ≡ not (isKind 1 e)) es
+kinds-apart h =
+    all-map (λ e w. ⊎-elim (λ f. fraction-not e (f .kind) ∙ sym (ap not (eq-eqb (e .kind) 1 (f .kind))))
+    (λ p. piece-of e (p .kind) ∙ sym (ap not (not-fraction e (p .kind)))) (held-kinds w)) h
+
+module _ {B : ℕ} {es : List Entry} (w : All (Held B) es) where
+  pub tie-sum : (f : Entry → ℕ) → sumOf f (tieOrder es) ≡ sumOf f es
+  unfolding tieOrder
+  tie-sum f =
+      omega (
+        arith,
+        sum-append f (sort lower (keep (isKind 1) es)) (order es),
+        sum-sort f lower (keep (isKind 1) es),
+        sum-keep f (isKind 1) es,
+        order-sum f es,
+        sum-add (λ e. cond (isKind 1 e) (f e) 0) (λ e. cond (isPiece e) (f e) 0) es,
+        sum-ext (λ e. cond (isKind 1 e) (f e) 0 + cond (isPiece e) (f e) 0) f
+            (all-map (λ e q. ap (λ b. cond (isKind 1 e) (f e) 0 + cond b (f e) 0) q ∙ one (isKind 1 e) (f e)) (kinds-apart w)),
+      )
+    where
+      one : (b : Bool) (v : ℕ) → cond b v 0 + cond (not b) v 0 ≡ v
+      one true v = omega arith
+      one false v = omega arith
+
+  pub all-tie : {P : Entry → Type 0} → All P es → All P (tieOrder es)
+  unfolding tieOrder
+  all-tie h = all-append (all-sort lower (all-keep (isKind 1) (λ e q p. p) h)) (all-order (all-map (λ e p q. p) h))
+
+  tie-all : (P : Entry → Type 0) → All P (tieOrder es) → All P es
+  unfolding tieOrder
+  tie-all P h =
+      all-zip (λ e q r. pick e (isKind 1 e) refl q (r .0) (r .1)) (kinds-apart w)
+      (all-both
+      (all-kept P (isKind 1) es (all-sorted P lower (keep (isKind 1) es) (all-left P (sort lower (keep (isKind 1) es)) (order es) h)))
+      (order-all P es (all-right P (sort lower (keep (isKind 1) es)) (order es) h)))
+    where
+      pick : (e : Entry) (b : Bool) → isKind 1 e ≡ b → isPiece e ≡ not b → (isKind 1 e ≡ true → P e) → (isPiece e ≡ true → P e) → P e
+      pick e true z q x y = x z
+      pick e false z q x y = y q
+
+-- ---- all jobs of the interval
+module _ {B : ℕ} {es : List Entry} (w : Together B es) where
+  -- what an entry's jobs are, as steps B and C have it
+  abbrev own : Entry → List Job
+  own e = jobsOf B (stepB B es) (stepC B es) e
+
+  abbrev need : Entry → ℕ
+  need e = jobNeed (stepB B es) (stepC B es) e
+
+  pub jobs-sum : (f : Job → ℕ) → sumOf f (jobs B es) ≡ sumOf (λ e. sumOf f (own e)) es
+  unfolding jobs
+  jobs-sum f = sum-concat f own (tieOrder es) ∙ tie-sum (w .held) (λ e. sumOf f (own e))
+
+  pub jobs-all : {P : Job → Type 0} → All (λ e. (k : ℕ) → k < jobCount e → P (jobAt (e .stream) (jobLength B e) (need e) k)) es
+      → All P (jobs B es)
+  unfolding jobs
+  jobs-all h =
+      all-concat own
+      (all-tie (w .held)
+      (all-map (λ e q. from-all (e .stream) (jobLength B e) (need e) (jobCount e) 0 (λ k a b. q k (omega arith))) h))
+
+  pub jobs-each : (P : Job → Type 0) → All P (jobs B es)
+      → All (λ e. (k : ℕ) → k < jobCount e → P (jobAt (e .stream) (jobLength B e) (need e) k)) es
+  unfolding jobs
+  jobs-each P h =
+      all-map (λ e q k l. from-each (e .stream) (jobLength B e) (need e) P (jobCount e) 0 q k zero-le (omega arith))
+      (tie-all (w .held) (λ e. All P (own e)) (all-unconcat P own (tieOrder es) h))
+
+  -- no name twice: an entry's jobs have different numbers, and no stream stands twice
+  pub jobs-keys : Keys (jobs B es)
+  jobs-keys k =
+      omega (
+        arith,
+        jobs-sum (λ (j : Job). one-if (sameName (nameOf j) k)),
+        sum-le (λ e. sumOf (λ (j : Job). one-if (sameName (nameOf j) k)) (own e)) (λ (e : Entry). one-if (isStream (k .stream) e))
+            (all-of es (λ e. from-keys (e .stream) (jobLength B e) (need e) (jobCount e) k)),
+        w .once (k .stream),
+      )
+
+  -- ---- room
+  -- m jobs of length T fill the interval
+  pub fills : All (λ e. jobLength B e * jobCount e ≡ B) es
+  fills = all-map (λ e h. one e (held-kinds h)) (w .held)
+    where
+      one : (e : Entry) → Fraction B e ⊎ Piece B e → jobLength B e * jobCount e ≡ B
+      one e (inl f) = rw (eq-eqb (e .kind) 1 (f .kind)) (f .whole)
+      one e (inr p) = rw (not-fraction e (p .kind)) (omega arith)
+
+  some-jobs : All (λ e. 1 ≤ jobCount e) es
+  some-jobs = all-map (λ e h. one e (held-kinds h)) (w .held)
+    where
+      one : (e : Entry) → Fraction B e ⊎ Piece B e → 1 ≤ jobCount e
+      one e (inl f) = rw (eq-eqb (e .kind) 1 (f .kind)) (omega (arith, f .parts-least))
+      one e (inr p) = rw (not-fraction e (p .kind)) (le-refl 1)
+
+  -- An entry's jobs ask what a periodic source asks; those sources have room, since what they ask of the interval fits it.
+  pub jobs-room : 1 ≤ B → load es ≤ B → JobRoom 0 (jobs B es)
+  jobs-room b l x d =
+      omega (
+        arith,
+        jobs-sum (λ j. dem (jobSource 0 j) x d),
+        sum-ext (λ e. sumOf (λ j. dem (jobSource 0 j) x d) (own e)) (λ e. dem (periodic e) x d)
+            (all-map (λ e c. each e (jobCount e) c) some-jobs),
+        periodic-room need (jobLength B) jobCount (λ e. jobCount e - 1) B es b fills
+            (needs-fit B es (w .once) (kinds-apart (w .held)) l) x d,
+      )
+    where
+      periodic : Entry → Source
+      periodic e = source (need e) (jobLength B e) (need e) (jobLength B e) (jobCount e - 1)
+
+      each : (e : Entry) (m : ℕ) → 1 ≤ m
+          → sumOf (λ j. dem (jobSource 0 j) x d) (jobsFrom m (e .stream) (jobLength B e) (need e) 0)
+          ≡ dem (source (need e) (jobLength B e) (need e) (jobLength B e) (m - 1)) x d
+      each e zero c = absurd (omega arith)
+      each e (suc m) c =
+          let z : 0 * jobLength B e ≡ 0 = zero-mul (jobLength B e) in
+          let p : m ≡ suc m - 1 = omega arith in
+          from-dem (e .stream) (jobLength B e) (need e) (suc m) 0 x d
+          ∙ ap (λ v. later v (need e) (jobLength B e) (suc m) x d) z
+          ∙ later-dem (need e) (jobLength B e) m x d
+          ∙ ap (λ v. dem (source (need e) (jobLength B e) (need e) (jobLength B e) v) x d) p
+
+  -- every job is released before it is due, and due by the end of the interval
+  pub jobs-windows : 1 ≤ B → All (λ j. (j .release < j .due) × (j .due ≤ B)) (jobs B es)
+  jobs-windows b =
+      jobs-all (all-map (λ e f k q. (
+        omega (arith, suc-mul k (jobLength B e), long (jobLength B e) (jobCount e) f),
+        omega (arith, f, mul-comm (jobLength B e) (jobCount e), mul-le-mul-right (jobLength B e) q),
+      )) fills)
+    where
+      long : (T m : ℕ) → T * m ≡ B → 1 ≤ T
+      long zero m h = absurd (omega (arith, zero-mul m))
+      long (suc T) m h = omega arith

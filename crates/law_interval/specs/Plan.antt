@@ -1,0 +1,124 @@
+-- The plan of a well-formed table: its records are exactly the longest runs of step D's slots, in rising order; there are at most
+-- 1,024 of them; and each number in them is a stream's, a job's, or within the interval, so below 2^32. Assumes nothing.
+use mathlib.Core.Path.{_≡_, ap}
+use mathlib.Core.Logic.{_⊎_, inl, inr}
+use mathlib.Core.Bool.{true}
+use mathlib.Core.List.{List, map, List·Memᴰ}
+use Prim.Native.Nat.{ℕ, zero, suc, _+_, _*_, _≤_, _<_, zero-le}
+use native.Mathlib.Nat.{mul-le-mul-right}
+use native.Mathlib.Omega.{arith}
+use lib.Dec.{ltb}
+use lib.ListN.{length}
+use borrow.Author.Tests.{eq-eqb, le-ltb}
+use Rattle.spec_lists.specs.Lists.{sumOf}
+use Rattle.base_lists.specs.Tests.{within-both, one-if-most, one-if-false}
+use Rattle.spec_lists.specs.All.{All}
+use Rattle.base_lists.specs.All.{all-map, all-zip}
+use Rattle.base_lists.specs.Sums.{sum-most, length-keep}
+use Rattle.spec_model.specs.Entries.{isHeld}
+use Rattle.spec_model.specs.declared.Entry.{Entry}
+use Rattle.spec_model.specs.declared.Table.{Table}
+use Rattle.spec_rules.specs.Share.{jobCount, stepB, stepC}
+use Rattle.spec_rules.specs.Slots.{JobName, Run, nameOf, jobsFrom, jobLength, jobNeed, jobsOf, jobs, stepD, stepE}
+use Rattle.spec_rules.specs.Calls.{mostRecords, heldOf, planOf}
+use Rattle.spec_rules.specs.Reading.{rises}
+use Rattle.spec_rules.specs.WellFormed.{WellFormed}
+use Rattle.law_steps.specs.Held.{Fraction, Piece, held-kinds, not-fraction}
+use Rattle.law_ahead.specs.Moved.{Together}
+use Rattle.law_ahead.specs.Tables.{formed-together}
+use Rattle.law_slots.specs.Meets.{slots-length, slots-owned}
+use Rattle.law_slots.specs.Cuts.{nameIn}
+use Rattle.law_slots.specs.Runs.{IsRun, runs-are, all-runs, runs-rise, runs-end, runs-named}
+use Rattle.law_slots.specs.Count.{toCome, few-runs}
+use Rattle.law_interval.specs.Jobs.{jobs-sum, jobs-all, jobs-keys}
+
+-- ---- few records
+-- a job counts twice at most
+from-come : (n s T need j : ℕ) → sumOf (toCome 0) (jobsFrom n s T need j) ≤ n * 2
+unfolding jobsFrom
+from-come zero s T need j = zero-le
+from-come (suc n) s T need j =
+    omega (arith, one-if-most (ltb 0 need), one-if-most (ltb 0 (j * T)), from-come n s T need (suc j))
+
+-- and the first, which is released at 0, once: 31 for sixteen jobs
+all-come : (n s T need : ℕ) → n ≤ 16 → sumOf (toCome 0) (jobsFrom n s T need 0) ≤ 31
+unfolding jobsFrom
+all-come zero s T need h = zero-le
+all-come (suc n) s T need h =
+    omega (arith, one-if-most (ltb 0 need), one-if-false (le-ltb 0 (0 * T) (omega arith)), from-come n s T need 1)
+
+-- a stream that can be held, and one of its jobs
+abbrev Named : JobName → Type 0
+Named k = (1 ≤ k .stream) × (k .stream ≤ 65535) × (k .number < 16)
+
+module _ {B : ℕ} {es : List Entry} (w : Together B es) where
+  -- no entry has more than sixteen jobs
+  few-jobs : All (λ e. jobCount e ≤ 16) es
+  few-jobs = all-map (λ e h. one e (held-kinds h)) (w .held)
+    where
+      one : (e : Entry) → Fraction B e ⊎ Piece B e → jobCount e ≤ 16
+      one e (inl f) = rw (eq-eqb (e .kind) 1 (f .kind)) (f .parts-most)
+      one e (inr p) = rw (not-fraction e (p .kind)) (omega arith)
+
+  plan-few : length (stepE B es) ≤ length es * 31
+  unfolding stepE stepD
+  plan-few =
+      omega (
+        arith,
+        few-runs B 0 (jobs B es) (jobs-keys w),
+        jobs-sum w (toCome 0),
+        sum-most (λ e. sumOf (toCome 0) (jobsOf B (stepB B es) (stepC B es) e)) 31
+            (all-map (λ e h. all-come (jobCount e) (e .stream) (jobLength B e) (jobNeed (stepB B es) (stepC B es) e) h) few-jobs),
+      )
+
+  -- ---- the names in the records
+  jobs-named : All (λ j. Named (nameOf j)) (jobs B es)
+  jobs-named =
+      jobs-all w
+      (all-zip (λ e h m k q. (let s = within-both 1 65535 (e .stream) (h .name) in (s .0, s .1, omega arith))) (w .held) few-jobs)
+
+  plan-named : All (λ r. Named (nameIn r)) (stepE B es)
+  unfolding stepE stepD
+  plan-named = runs-named Named (stepD B es) (slots-owned Named B 0 (jobs B es) jobs-named)
+
+-- ---- the plan of a table
+all-slots : (B : ℕ) (es : List Entry) → length (stepD B es) ≡ B
+unfolding stepD
+all-slots B es = slots-length B 0 (jobs B es)
+
+-- a record's numbers: a stream, a job, and slots of the interval
+pub record Numbers (B : ℕ) (r : Run) : Type 0 where
+  pub stream-least : 1 ≤ r .stream
+  pub stream-most : r .stream ≤ 65535
+  pub job : r .job < 16
+  pub slots : r .start + r .length ≤ B
+
+pub record RightPlan (t : Table) : Type 0 where
+  -- every record is a longest run of step D's slots, and every longest run is a record
+  pub records : All (IsRun (stepD (t .interval .0) (heldOf t))) (planOf t)
+  pub runs : (r : Run) → IsRun (stepD (t .interval .0) (heldOf t)) r → List·Memᴰ r (planOf t)
+  pub rise : rises (map (λ r. r .start) (planOf t)) ≡ true
+  pub few : length (planOf t) ≤ mostRecords
+  pub numbers : All (Numbers (t .interval .0)) (planOf t)
+  pub short : t .interval .0 ≤ 1024000
+
+pub plan-right : (t : Table) → WellFormed t → RightPlan t
+unfolding planOf stepE
+plan-right t w =
+    let B = t .interval .0 in
+    let es = heldOf t in
+    let u = within-both 1 1000 (w .units .0) (w .units .1) in
+    record {
+      records = runs-are (stepD B es);
+      runs = all-runs (stepD B es);
+      rise = runs-rise (stepD B es);
+      few = omega (
+        arith,
+        plan-few (formed-together w),
+        mul-le-mul-right 31 (length-keep isHeld (t .entries)),
+        ap (λ n. n * 31) (w .size),
+      );
+      numbers = all-zip (λ r n e. record { stream-least = n .0; stream-most = n .1; job = n .2; slots = omega (arith, all-slots B es) })
+          (plan-named (formed-together w)) (runs-end (stepD B es));
+      short = omega (arith, w .units .2);
+    }

@@ -1,0 +1,4 @@
+pub mod Puts
+pub mod Plans
+pub mod Ready
+pub mod Sizes

@@ -1,0 +1,160 @@
+-- Step C: the extras stay within what remains and within each stream's headroom; none is given while somebody is owed; and with them
+-- all jobs of an interval fit it, where kind 1's minimums do. Assumes nothing.
+use mathlib.Core.Path.{_≡_, refl, ap, ap₂, _∙_}
+use mathlib.Core.Logic.{_⊎_, inl, inr}
+use mathlib.Core.Bool.{Bool, true, false, cond, not}
+use mathlib.Core.List.{List}
+use Prim.Native.Nat.{ℕ, _+_, _*_, _/_, _≤_, _<_, zero-le}
+use native.Mathlib.Nat.{le-of-eq, mul-zero, one-mul, mul-comm, mul-add, mul-le-mul-left, div-le-of-le-mul}
+use native.Mathlib.Decide.{ℕ-discrete, decLe}
+use native.Mathlib.Omega.{arith}
+use lib.Dec.{leb}
+use borrow.Author.Tests.{lt-ltb, le-ltb, le-leb, lt-leb}
+use Rattle.spec_lists.specs.Lists.{sumOf}
+use Rattle.spec_lists.specs.All.{All}
+use Rattle.base_lists.specs.All.{all-map, all-zip, all-of}
+use Rattle.base_lists.specs.Sums.{sum-ext, sum-same, sum-add, sum-zero, sum-tight}
+use Rattle.base_edf.specs.Share.{shares-fit}
+use Rattle.spec_model.specs.Entries.{isKind, isPiece}
+use Rattle.spec_model.specs.declared.Entry.{Entry}
+use Rattle.spec_rules.specs.Share.{load, slotsFor, stepB, remains, headroom, jobCount, weight, extra, stepC}
+use Rattle.spec_rules.specs.Slots.{jobNeed}
+use Rattle.spec_rules.specs.WellFormed.{Once}
+use Rattle.law_steps.specs.Grants.{slots-map}
+use Rattle.law_steps.specs.StepB.{stepBOf, stepB-within, stepB-total, remains-rest}
+
+-- what step C gives an entry
+abbrev pub stepCOf : ℕ → List Entry → Entry → ℕ
+stepCOf B es e = slotsFor (e .stream) (stepC B es)
+
+-- its d
+abbrev pub headroomOf : ℕ → List Entry → Entry → ℕ
+headroomOf B es e = headroom e (stepBOf B es e)
+
+-- ---- one extra
+extra-none : (L W d : ℕ) → L ≡ 0 → extra L W d ≡ 0
+unfolding extra
+extra-none L W d h = ap (λ b. cond b (cond (leb W L) d (d * L / W)) 0) (le-ltb 0 L (omega arith))
+
+extra-whole : (L W d : ℕ) → 1 ≤ L → W ≤ L → extra L W d ≡ d
+unfolding extra
+extra-whole L W d h q = ap₂ (λ a b. cond a (cond b d (d * L / W)) 0) (lt-ltb 0 L h) (le-leb W L q)
+
+extra-part : (L W d : ℕ) → 1 ≤ L → L < W → extra L W d ≡ d * L / W
+unfolding extra
+extra-part L W d h q = ap₂ (λ a b. cond a (cond b d (d * L / W)) 0) (lt-ltb 0 L h) (lt-leb W L q)
+
+pub extra-le : (L W d : ℕ) → extra L W d ≤ d
+extra-le L W d =
+    elim (ℕ-discrete L 0) [
+      | yes z ↦ omega (arith, extra-none L W d z)
+      | no z ↦ elim (decLe W L) [
+        | yes q ↦ le-of-eq (extra-whole L W d (omega arith) q)
+        | no q ↦ omega (arith, extra-part L W d (omega arith) (omega arith), div-le-of-le-mul W {m = d * L} {n = d} (smaller (omega arith)))
+      ]
+    ]
+  where
+    smaller : L ≤ W → d * L ≤ W * d
+    smaller h = omega (arith, mul-comm W d, mul-le-mul-left d h)
+
+-- t x jobs of each x get its extra: together no more than L
+extras-fit : (L : ℕ) (t d : Entry → ℕ) (es : List Entry) → sumOf (λ e. t e * extra L (sumOf (λ e. t e * d e) es) (d e)) es ≤ L
+extras-fit L t d es =
+    elim (ℕ-discrete L 0) [
+      | yes z ↦ omega (
+        arith,
+        sum-zero (λ e. t e * extra L W (d e)) (all-of es (λ e. ap (λ v. t e * v) (extra-none L W (d e) z) ∙ mul-zero (t e))),
+      )
+      | no z ↦ elim (decLe W L) [
+        | yes q ↦ omega (
+          arith,
+          sum-same (λ e. t e * extra L W (d e)) (λ e. t e * d e) es (λ e. ap (λ v. t e * v) (extra-whole L W (d e) (omega arith) q)),
+        )
+        | no q ↦ omega (
+          arith,
+          shares-fit t d L es (omega arith),
+          sum-same (λ e. t e * extra L W (d e)) (λ e. t e * (d e * L / W)) es
+              (λ e. ap (λ v. t e * v) (extra-part L W (d e) (omega arith) (omega arith))),
+        )
+      ]
+    ]
+  where
+    W : ℕ
+    W = sumOf (λ e. t e * d e) es
+
+module _ (B : ℕ) (es : List Entry) (w : Once es) where
+  pub stepC-of : All (λ e. stepCOf B es e ≡ extra (remains B es) (weight (stepB B es) es) (headroomOf B es e)) es
+  unfolding stepC
+  stepC-of = slots-map (λ e. extra (remains B es) (weight (stepB B es) es) (headroomOf B es e)) es w
+
+  -- an extra stays within d
+  pub stepC-within : All (λ e. stepCOf B es e ≤ headroomOf B es e) es
+  stepC-within =
+      all-map (λ e h. omega (arith, h, extra-le (remains B es) (weight (stepB B es) es) (headroomOf B es e))) stepC-of
+
+  -- in all the extras take at most L
+  pub stepC-total : sumOf (λ e. jobCount e * stepCOf B es e) es ≤ remains B es
+  unfolding weight
+  stepC-total =
+      omega (
+        arith,
+        sum-ext (λ e. jobCount e * stepCOf B es e) (λ e. jobCount e * extra (remains B es) (weight (stepB B es) es) (headroomOf B es e))
+            (all-map (λ e h. ap (λ v. jobCount e * v) h) stepC-of),
+        extras-fit (remains B es) jobCount (headroomOf B es) es,
+      )
+
+  -- An extra is given only when everything owed is met: where something remains, step B gave the whole of what was owed, and
+  -- nobody more than that, so each has what it was owed.
+  pub stepC-last : All (λ e. isPiece e ≡ true → (stepCOf B es e ≡ 0) ⊎ (stepBOf B es e ≡ e .owed .0)) es
+  stepC-last =
+      elim (ℕ-discrete (remains B es) 0) [
+        | yes z ↦ all-map (λ e h q. inl (h ∙ extra-none (remains B es) (weight (stepB B es) es) (headroomOf B es e) z)) stepC-of
+        | no z ↦ all-zip (λ e h t q. inr (paid e q (h q) t)) (stepB-within B es w)
+            (sum-tight got owed (all-map (λ e h. cut e (isPiece e) h) (stepB-within B es w))
+            (omega (arith, stepB-total B es w, remains-rest B es w)))
+      ]
+    where
+      got : Entry → ℕ
+      got e = cond (isPiece e) (stepBOf B es e) 0
+
+      owed : Entry → ℕ
+      owed e = cond (isPiece e) (e .owed .0) 0
+
+      cut : (e : Entry) (b : Bool) → (b ≡ true → stepBOf B es e ≤ e .owed .0) → cond b (stepBOf B es e) 0 ≤ cond b (e .owed .0) 0
+      cut e true h = h refl
+      cut e false h = zero-le
+
+      paid : (e : Entry) → isPiece e ≡ true → stepBOf B es e ≤ e .owed .0 → owed e ≤ got e → stepBOf B es e ≡ e .owed .0
+      paid e q h t = omega (arith, ap (λ b. cond b (stepBOf B es e) 0) q, ap (λ b. cond b (e .owed .0) 0) q)
+
+  -- All jobs together: kind 1's minimums, what step B gives, and the extras, m times each.
+  pub needs-fit : All (λ e. isPiece e ≡ not (isKind 1 e)) es → load es ≤ B
+      → sumOf (λ e. jobCount e * jobNeed (stepB B es) (stepC B es) e) es ≤ B
+  unfolding load
+  needs-fit k l =
+      omega (
+        arith,
+        sum-ext (λ e. jobCount e * jobNeed (stepB B es) (stepC B es) e) (λ e. (least e + piece e) + extras e)
+            (all-map (λ e h. parts e (isKind 1 e) (isPiece e) h) k),
+        sum-add (λ e. least e + piece e) extras es,
+        sum-add least piece es,
+        stepC-total,
+        stepB-total B es w,
+        remains-rest B es w,
+      )
+    where
+      least : Entry → ℕ
+      least e = cond (isKind 1 e) (e .parts * e .min .0) 0
+
+      piece : Entry → ℕ
+      piece e = cond (isPiece e) (stepBOf B es e) 0
+
+      extras : Entry → ℕ
+      extras e = jobCount e * stepCOf B es e
+
+      parts : (e : Entry) (f p : Bool) → p ≡ not f
+          → cond f (e .parts) 1 * cond f (e .min .0 + stepCOf B es e) (stepBOf B es e + stepCOf B es e)
+          ≡ (cond f (e .parts * e .min .0) 0 + cond p (stepBOf B es e) 0) + cond f (e .parts) 1 * stepCOf B es e
+      parts e true p h = omega (arith, ap (λ b. cond b (stepBOf B es e) 0) h, mul-add (e .parts) (e .min .0) (stepCOf B es e))
+      parts e false p h =
+          omega (arith, ap (λ b. cond b (stepBOf B es e) 0) h, one-mul (stepBOf B es e + stepCOf B es e), one-mul (stepCOf B es e))

@@ -1,4 +1,0 @@
-pub mod Requests
-pub mod Entries
-pub mod Answers
-pub mod RequestLaws

@@ -1,6 +1,0 @@
-pub mod Shown
-pub mod Shows
-pub mod Turns
-pub mod Looking
-pub mod Evenly
-pub mod Begin

@@ -1,0 +1,69 @@
+-- `row_slots::slot_row` meets its contract: `slot`, four numbers, an empty field and the end of the row. Assumes nothing.
+use native.Mathlib.Omega.{arith}
+use borrow.Author.Needs.{needs}
+use Rattle.spec_shelf.specs.Printed.{slotRow}
+use Rattle.row_write.specs.BytesLaws.{field-most, wrote, contract, wrote-then}
+use Rattle.row_slots.proofs.slot_row.Statement.{statement}
+use Rattle.row_slots.proofs.slot_row.Tie as tie
+
+slice-aggregate-put-bytes : tie.Need-slice-aggregate-put-bytes
+slice-aggregate-put-bytes c = search needs
+
+put-bytes-requires : tie.Need-put-bytes-requires
+put-bytes-requires c κs = search needs
+
+put-field-requires : tie.Need-put-field-requires
+put-field-requires c κs = search needs
+
+put-field-requires-2 : tie.Need-put-field-requires-2
+put-field-requires-2 c κs = omega (arith, field-most)
+
+put-field-requires-3 : tie.Need-put-field-requires-3
+put-field-requires-3 c κs = omega (arith, field-most)
+
+put-field-requires-4 : tie.Need-put-field-requires-4
+put-field-requires-4 c κs = omega (arith, field-most)
+
+slice-aggregate-put-bytes-2 : tie.Need-slice-aggregate-put-bytes-2
+slice-aggregate-put-bytes-2 c = search needs
+
+put-bytes-requires-2 : tie.Need-put-bytes-requires-2
+put-bytes-requires-2 c κs = omega (arith, field-most)
+
+same-length : tie.Need-same-length
+same-length c = search needs
+
+returns : tie.Need-returns
+unfolding slotRow
+returns c =
+    let end = c .before .before in
+    let len = end .before .before .before .before .before in
+    let start = len .before .before .before .before in
+    let job = start .before .before .before .before in
+    let stream = job .before .before .before .before in
+    let slot = stream .before .before .before .before in
+    contract
+    (wrote-then
+    (wrote-then
+    (wrote-then
+    (wrote-then
+    (wrote-then (wrote (slot .put-bytes .ensures)) (wrote (stream .put-field .ensures)))
+    (wrote (job .put-field2 .ensures)))
+    (wrote (start .put-field3 .ensures)))
+    (wrote (len .put-field4 .ensures)))
+    (wrote (end .put-bytes2 .ensures)))
+
+pub slot-row-spec : {M : Type 1} → statement M
+slot-row-spec =
+    tie.close
+    (tie.spec
+    slice-aggregate-put-bytes
+    put-bytes-requires
+    put-field-requires
+    put-field-requires-2
+    put-field-requires-3
+    put-field-requires-4
+    slice-aggregate-put-bytes-2
+    put-bytes-requires-2
+    same-length
+    returns)

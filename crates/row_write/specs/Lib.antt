@@ -1,0 +1,3 @@
+pub mod Powers
+pub mod BytesLaws
+pub mod ReadBack

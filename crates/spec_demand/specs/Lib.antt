@@ -1,0 +1,5 @@
+pub mod History
+pub mod Ledger
+pub mod Demand
+pub mod Bounds
+pub mod Assignment

@@ -1,0 +1,5 @@
+pub mod Requests
+pub mod Entries
+pub mod Answers
+pub mod Numbers
+pub mod Six

@@ -1,0 +1,139 @@
+// Units, an offer's fields as they came, and the table that holds requests. Document 01, "Units and one request".
+ghost use mathlib.Core.Path.{_≡_};
+ghost use Rattle.spec_model.specs.Answers.{offerNumber};
+ghost use Rattle.spec_model.specs.Entries.{freeEntry};
+ghost use Rattle.spec_model.specs.Requests.{refusal, streamInRange, inOrder, rangeChecks};
+
+// Counts of slots and counts of beacon intervals are different units: no sum takes one of each.
+#[repr(C)]
+pub struct Slots(pub u32);
+
+#[repr(C)]
+pub struct Intervals(pub u32);
+
+// What an offer answers.
+pub enum OfferAnswer {
+    Accepted,
+    StreamOutside,
+    StreamHeld,
+    KindUnknown,
+    PeriodOutside,
+    AmountsOutside,
+    LifeOutside,
+    TableFull,
+    NoTime,
+}
+
+// What the other calls answer.
+pub enum OpenAnswer {
+    Opened,
+    UnitsOutside,
+}
+
+pub enum HeldAnswer {
+    Held,
+    NotHeld,
+}
+
+pub enum BeaconAnswer {
+    Planned,
+    PlanTooShort,
+}
+
+// An offer's six fields as they came: any numbers.
+pub struct Request {
+    pub stream: u32,
+    pub kind: u32,
+    pub period: u32,
+    pub min: u32,
+    pub max: u32,
+    pub life: u32,
+}
+
+impl Request {
+    pub const STREAM_LEAST: u32 = 1;
+
+    pub const STREAM_LARGEST: u32 = 65535;
+
+    pub fn stream_in_range(self) -> bool
+        ensures { λ r. ⌜ r ≡ streamInRange (self .stream) ⌝ }
+    {
+        base_numbers::is_within(Self::STREAM_LEAST, Self::STREAM_LARGEST, self.stream)
+    }
+}
+
+// ---- what every kind checks
+// A minimum of at least the lowest, and a maximum from there to the largest.
+pub fn amounts_in_order(lowest: u32, min: Slots, max: Slots, largest: u64) -> bool
+    ensures { λ r. ⌜ r ≡ inOrder lowest (min .0) (max .0) largest ⌝ }
+{
+    let least = min.0;
+    let most = max.0;
+    if least < lowest {
+        return false;
+    }
+    if most < least {
+        return false;
+    }
+    (most as u64) <= largest
+}
+
+// The first of three ranges that a field is outside of.
+pub fn first_outside(period: bool, amounts: bool, life: bool) -> OfferAnswer
+    ensures { λ r. ⌜ offerNumber r ≡ refusal (rangeChecks period amounts life) ⌝ }
+{
+    if !period {
+        return OfferAnswer::PeriodOutside;
+    }
+    if !amounts {
+        return OfferAnswer::AmountsOutside;
+    }
+    if !life {
+        return OfferAnswer::LifeOutside;
+    }
+    OfferAnswer::Accepted
+}
+
+// ---- the table
+// A held request, or a free place, which is all zero. The period field of an offer is parts for kind 1, period for the others.
+// life_left counts the intervals still to come. Kinds 2 and 3 also have the slots owed for the minimum, the slots given in this
+// period, and the intervals left to its deadline.
+#[repr(C)]
+pub struct Entry {
+    pub stream: u32,
+    pub kind: u32,
+    pub parts: u32,
+    pub period: Intervals,
+    pub min: Slots,
+    pub max: Slots,
+    pub life: Intervals,
+    pub life_left: Intervals,
+    pub owed: Slots,
+    pub given: Slots,
+    pub left: Intervals,
+}
+
+// The planner's whole state: the slots of an interval, and 32 places.
+#[repr(C)]
+pub struct Table {
+    pub interval: Slots,
+    pub entries: [Entry; 32],
+}
+
+pub fn free_entry() -> Entry
+    ensures { λ r. ⌜ r ≡ freeEntry ⌝ }
+{
+    Entry {
+        stream: 0,
+        kind: 0,
+        parts: 0,
+        period: Intervals(0),
+        min: Slots(0),
+        max: Slots(0),
+        life: Intervals(0),
+        life_left: Intervals(0),
+        owed: Slots(0),
+        given: Slots(0),
+        left: Intervals(0),
+    }
+}

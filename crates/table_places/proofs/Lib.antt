@@ -1,0 +1,3 @@
+pub mod Known
+mod Nobody
+pub mod Search

@@ -1,4 +1,0 @@
-pub mod Bytes
-pub mod Powers
-pub mod BytesLaws
-pub mod ReadBack
