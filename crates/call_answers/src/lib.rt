@@ -1,5 +1,4 @@
-// What the calls answer, and the document's number of each answer: document 01, "Where each refusal is checked". The answers of an offer
-// are in crate spec_model, with its checks. A call answers with an enum; whoever shows the answer asks for its number. The window, the calls on
+// The document's number of each answer: document 01, "Where each refusal is checked". A call answers with an enum of crate spec_model; whoever shows the answer asks for its number. The window, the calls on
 // a lent table and the program answer with numbers, which have their names here.
 ghost use mathlib.Core.Path.{_≡_};
 ghost use Rattle.spec_model.specs.Answers.{offerNumber};

@@ -26,7 +26,7 @@ use Rattle.law_ahead.specs.Formed.{opened-formed, passed-held}
 use Rattle.law_exact.specs.Offer.{offer-served, offer-hopeless}
 use Rattle.spec_demand.specs.History.{Call, Offer, Withdraw, Beacon, recordsOf, seen, after, history, tableAfter, answerSeen, lastSeen}
 use Rattle.spec_demand.specs.Ledger.{Ledger, begins, isOf, note, noteAll, noAdmission, ledgerOf}
-use Rattle.spec_demand.specs.Demand.{timesGiven, Kept, Serves, offerChecks, Right, Once, answerTo, ServesAll, seenOf, seenNext, Claim}
+use Rattle.spec_demand.specs.Demand.{timesGiven, Kept, Serves, offerChecks, Right, GivenOnce, answerTo, ServesAll, seenOf, seenNext, Claim}
 use Rattle.law_demand.specs.Link.{same-fields, begins-linked}
 use Rattle.law_demand.specs.Serving.{serves-entry, entry-serves}
 use Rattle.law_demand.specs.Planned.{records-back, plan-once}
@@ -71,7 +71,7 @@ last-seen [] t c = refl
 last-seen (d ∷ []) t c = refl
 last-seen (d ∷ e ∷ cs) t c = last-seen (e ∷ cs) (after t d) c
 
-once-each : (t : Table) (c : Call) → Once (seen t c)
+once-each : (t : Table) (c : Call) → GivenOnce (seen t c)
 unfolding seen beacon planOf timesGiven recordsOf
 once-each t (Offer q) x = zero-le
 once-each t (Withdraw s) x = zero-le
@@ -84,7 +84,7 @@ once-each t (Beacon ws) x = omega (arith, go (ltb (length ws) (recordWords * mos
         subst (λ rs. timesGiven x rs ≤ 1) (sym (records-back (planOf t) (drop (recordWords * length (planOf t)) ws)))
         (plan-once (t .interval .0) (heldOf t) x)
 
-once-all : (cs : List Call) (t : Table) → All Once (history t cs)
+once-all : (cs : List Call) (t : Table) → All GivenOnce (history t cs)
 unfolding history
 once-all [] t = stop
 once-all (c ∷ cs) t = and (once-each t c) (once-all cs (after t c))

@@ -1,1 +1,1 @@
-// Demand 3 over every list of calls, stated and proved on the definitions: no code, see specs/.
+// Demand 3 over every list of calls, proved on the definitions of spec_demand: no code, see specs/.

@@ -1,5 +1,4 @@
--- Assignments of the coming slots, and when one serves an entry of a table: document 01, "What a list of calls gives", with no regard
--- to looking ahead. B is the number of slots of an interval. Assumes nothing.
+-- Assignments of the coming slots: document 01, "What a list of calls gives", with no regard to looking ahead. Assumes nothing.
 use mathlib.Core.Bool.{Bool, false}
 use mathlib.Core.Option.{Option, none, some}
 use Prim.Native.Nat.{ℕ}

@@ -20,7 +20,7 @@ use Rattle.spec_rules.specs.Slots.{Run, gives}
 use Rattle.spec_demand.specs.Assignment.{Assignment, isTo, assigned}
 use Rattle.spec_demand.specs.History.{Call, Offer, Withdraw, Beacon, Seen, Offered, Withdrew, Planned}
 use Rattle.spec_demand.specs.Ledger.{Admission, Ledger, begins, note, noteAll, ledgerOf}
-use Rattle.spec_demand.specs.Demand.{timesGiven, givenTo, slotsOf, had, Kept, Serves, offerChecks, Right, Once, Demand3}
+use Rattle.spec_demand.specs.Demand.{timesGiven, givenTo, slotsOf, had, Kept, Serves, offerChecks, Right, GivenOnce, Demand3}
 
 abbrev admitted : Request → List (List Run) → Admission
 admitted q ps = record { request = q; plans = ps }
@@ -87,7 +87,8 @@ whole-long k = omega (arith, k .wholes refl 1 (omega arith) .1)
 abbrev transfer : Request
 transfer = request 7 3 2 3 0 2
 
-pub transfer-edge : Kept 8 (admitted transfer (first 1 ∷ first 2 ∷ []))
+-- what others get does not count, and the last slots of an interval do
+pub transfer-edge : Kept 8 (admitted transfer (first 1 ∷ (slots 5 0 4 ∷ slots 7 6 2 ∷ []) ∷ []))
 unfolding had slotsOf givenTo
 transfer-edge = record { fractions = λ e. absurd (omega arith); wholes = λ e. absurd (omega arith); transfer = λ e p. omega arith }
 
@@ -104,11 +105,11 @@ one-most : (b : Bool) → one-if b ≤ 1
 one-most true = omega arith
 one-most false = omega arith
 
-pub slot-once : (n a : ℕ) → Once (Planned n a (slots 5 0 2 ∷ []))
+pub slot-once : (n a : ℕ) → GivenOnce (Planned n a (slots 5 0 2 ∷ []))
 unfolding timesGiven
 slot-once n a x = omega (arith, one-most (gives (slots 5 0 2) x))
 
-pub slot-twice : (n a : ℕ) → Once (Planned n a (slots 5 0 2 ∷ slots 7 1 1 ∷ [])) → ⊥
+pub slot-twice : (n a : ℕ) → GivenOnce (Planned n a (slots 5 0 2 ∷ slots 7 1 1 ∷ [])) → ⊥
 unfolding timesGiven
 slot-twice n a o = omega (arith, o 1)
 

@@ -83,8 +83,8 @@ Right B l (Planned n a rs) = a ≡ refusal (check 30 (ltb n (recordWords * mostR
 
 -- ---- slots
 -- a plan gives no slot twice
-abbrev pub Once : Seen → Type 0
-Once v = (x : ℕ) → timesGiven x (planSeen v) ≤ 1
+abbrev pub GivenOnce : Seen → Type 0
+GivenOnce v = (x : ℕ) → timesGiven x (planSeen v) ≤ 1
 
 -- ---- the demand, of what was seen of some calls, vs, and of what is seen of any call that follows them
 -- the answer to an offer that follows
@@ -97,7 +97,7 @@ ServesAll B vs q a = All (Serves B a) (begins q ∷ ledgerOf vs .held)
 
 pub record Demand3 (B : ℕ) (vs : List Seen) (next : Call → Seen) : Type 0 where
   pub kept : All (Kept B) (ledgerOf vs .held ++ ledgerOf vs .past)
-  pub once : All Once vs
+  pub once : All GivenOnce vs
   pub answers : (c : Call) → Right B (ledgerOf vs) (next c)
   -- both directions as facts one can use: an assignment is there, or every assignment is refuted
   pub accepted : (q : Request) → answerTo next q ≡ 0 → (a : Assignment) × ServesAll B vs q a

@@ -1,4 +1,4 @@
--- What the code of this crate shelf_open, in the document's numbers; and the fields that an entry was offered with. Document 01, "Where
+-- What the code of this crate answers, in the document's numbers; and the fields that an entry was offered with. Document 01, "Where
 -- each refusal is checked". Assumes nothing.
 use Prim.Native.Nat.{ℕ}
 use mathlib.Core.Bool.{cond}

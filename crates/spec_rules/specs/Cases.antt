@@ -8,6 +8,7 @@ use lib.Dec.{eqb}
 use lib.ListN.{take, replicate}
 use Rattle.spec_lists.specs.Lists.{sameList}
 use Rattle.spec_model.specs.Requests.{refusal, fieldChecks}
+use Rattle.spec_model.specs.Six.{request}
 use Rattle.spec_model.specs.Entries.{entryOf}
 use Rattle.spec_model.specs.declared.Request.{Request}
 use Rattle.spec_model.specs.declared.Table.{Table}
@@ -41,9 +42,6 @@ pub record Reply : Type 0 where
 
 abbrev on : State → Table → State
 on s t = record { table = t; words = s .words; count = s .count }
-
-abbrev request : (stream kind period least most life : ℕ) → Request
-request i k p a b l = record { stream = i; kind = k; period = p; min = a; max = b; life = l }
 
 abbrev numbers : List Grant → List ℕ
 numbers [] = []
