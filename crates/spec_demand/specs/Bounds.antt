@@ -1,5 +1,5 @@
 -- Each bound of demand 3 lies where it is: of admissions, assignments and lists of calls, those on the edge are right, and those one slot,
--- one interval or one number further are refused. So no bound can be left out or moved. Intervals have 8 slots. Assumes nothing.
+-- one interval or one number further are refused. The edits of this crate move them. Intervals have 8 slots. Assumes nothing.
 use mathlib.Core.Path.{_≡_, refl}
 use mathlib.Core.Logic.{_⊎_, inl, inr, ⊎-elim}
 use mathlib.Core.Bool.{Bool, true, false, cond}

@@ -1,5 +1,5 @@
 -- Demand 3, "What a list of calls gives" of document 01, as one statement over arguments, answers and plans: no table is named in it.
--- B is the number of slots of an interval. docs/GUARANTEE.md reads it line by line; specs/Bounds.antt shows that no bound can be left out.
+-- B is the number of slots of an interval. docs/GUARANTEE.md reads it line by line; specs/Bounds.antt has what lies on each bound and beyond.
 -- Assumes nothing.
 use mathlib.Core.Path.{_≡_}
 use mathlib.Core.Logic.{_⊎_, _↔_, _≢_}
