@@ -1,6 +1,9 @@
 //! The exported functions, as `bindings/c/gelmush.h` declares them.
 
-/// 353 words that only the calls read and write.
+/// As many requests as a table has places for.
+const PLACES: usize = 32;
+
+/// Words that only the calls read and write: the slots of an interval, and an entry for each place.
 #[derive(Clone)]
 #[repr(C)]
 pub struct Table {
@@ -8,7 +11,7 @@ pub struct Table {
 }
 
 impl Table {
-    const WORDS: usize = 353;
+    const WORDS: usize = 1 + PLACES * (size_of::<Entry>() / size_of::<u32>());
 
     /// No table yet: opening writes every word.
     pub const ZERO: Table = Table { words: [0; Table::WORDS] };

@@ -91,7 +91,7 @@ impl List {
         }
         let count = match random.between(0, 99) {
             0..=7 => wild(random) as usize,
-            8..=15 => random.between(0, plan.len() as u64 / 4 + 1) as usize,
+            8..=15 => random.between(0, (plan.len() / RECORD_WORDS) as u64 + 1) as usize,
             // Four times a count past 62 bits is a small number in 64.
             16..=19 => count + (1 << random.between(32, 63)),
             _ => *count,
@@ -154,7 +154,10 @@ fn more_words_than_a_plan_and_long_lines() {
     let mut list = List::of(&[Call::Open { units: 1 }, Call::Beacon { words: 5_200, seed: 1 }]);
     let damage = (0..1_200).map(|record| (RECORD_WORDS * record + 2, record as u32)).collect();
     list.add(Call::Window { count: 1_200, from: 100, until: 1_024, damage });
-    assert_eq!(list.expected.last().map(|given| (given.answer, given.words.len())), Some((0, 4 * 924)));
+    assert_eq!(
+        list.expected.last().map(|given| (given.answer, given.words.len())),
+        Some((0, RECORD_WORDS * 924))
+    );
     list.compare();
 }
 

@@ -1,13 +1,14 @@
 // Looking ahead: steps A, B and F in turn until every life is used up. Document 01, "Looking ahead".
 ghost use mathlib.Core.Path.{_≡_};
 ghost use Prim.Native.Nat.{_+_, _<_, max};
+ghost use Rattle.spec_model.specs.Tables.{places, heldOf, putIn};
 ghost use Rattle.spec_rules.specs.Ahead.{fitsAhead};
-ghost use Rattle.spec_rules.specs.Calls.{places, heldOf};
-ghost use Rattle.law_steps.specs.Places.{Tidy};
-ghost use Rattle.spec_rules.specs.Tables.{putIn};
+ghost use Rattle.spec_rules.specs.WellFormed.{Tidy};
 ghost use Rattle.table_queue.specs.Queues.{Used};
+ghost use Rattle.ahead_figures.specs.Columns.{columns};
 ghost use Rattle.law_figures.specs.Looking.{Begun, Says};
 use spec_model::Entry;
+use spec_model::Intervals;
 use spec_model::Slots;
 use spec_model::Table;
 
@@ -15,42 +16,45 @@ use spec_model::Table;
 // one: what is due there first, then what is due later, by rank. Where an even share is enough for what is left, no more is looked at. That
 // is tried at a time at least twice the last, since it costs about as much as a turn.
 fn goes_well(
-    interval: Slots,
+    room: Slots,
     used: usize,
     ranks: &mut [u64; 32],
     owed: &mut [u32; 32],
     ends: &mut [u32; 32],
     lives: &[u32; 32],
-    amounts: &mut [u32; 32],
+    loads: &mut [u32; 32],
+    begins: &mut [u32; 32],
     periods: &[u32; 32],
 ) -> bool
-    requires { ⌜ Begun (interval .0) used (now ranks) (now owed) (now ends) (now lives) (now amounts) (now periods) ⌝ }
-    ensures { λ r. ⌜ Says r (interval .0) used (now (ranks .entry)) (now (owed .entry)) (now (ends .entry)) (now (lives .entry))
-        (now (amounts .entry)) (now (periods .entry)) ⌝ }
+    requires { ⌜ Begun (room .0) used
+        (columns (now ranks) (now owed) (now ends) (now lives) (now loads) (now begins) (now periods)) ⌝ }
+    ensures { λ r. ⌜ Says r (room .0) used
+        (columns (now (ranks .entry)) (now (owed .entry)) (now (ends .entry)) (now (lives .entry)) (now (loads .entry)) (now (begins .entry))
+        (now (periods .entry))) ⌝ }
 {
-    let slots = interval.0 as u64;
-    let mut load = ahead_next::loads_in(amounts, periods, used);
+    let slots = room.0 as u64;
+    let mut load = ahead_next::loads_in(loads, used);
     if slots < load {
         return false;
     }
-    let mut time: u32 = 0;
-    let mut try_at: u64 = 1;
+    let mut time = Intervals(0);
+    let mut try_at = Intervals(1);
     let mut at = ahead_next::next_end(ends, used);
-    while at != ahead_figures::NEVER {
-        let capacity = ((at - time) as u64) * (slots - load);
+    while at.0 != ahead_figures::NEVER.0 {
+        let capacity = ((at.0 - time.0) as u64) * (slots - load);
         let due = ahead_serve::pay_due(owed, ends, used, at);
         if capacity < due {
             return false;
         }
         ahead_serve::serve(ranks, owed, used, capacity - due);
-        ahead_pass::pass_ends(ranks, owed, ends, lives, amounts, periods, used, at);
-        load = ahead_next::loads_in(amounts, periods, used);
+        ahead_pass::pass_ends(ranks, owed, ends, lives, loads, begins, periods, used, at);
+        load = ahead_next::loads_in(loads, used);
         time = at;
-        if try_at <= time as u64 {
-            if ahead_even::needs_of(owed, ends, amounts, periods, used, time) <= slots {
+        if try_at.0 <= time.0 {
+            if ahead_even::needs_of(owed, ends, loads, begins, periods, used, time) <= slots {
                 return true;
             }
-            try_at = 2 * (time as u64);
+            try_at = Intervals(2 * time.0);
         }
         at = ahead_next::next_end(ends, used);
     }
@@ -72,15 +76,16 @@ fn used_with(used: usize, place: usize) -> usize
 pub fn fits_ahead(t: Table, used: usize, place: usize, e: Entry) -> bool
     requires { ⌜ Tidy t × Used used t ⌝ }
     requires { ⌜ (place < places) × Tidy (putIn t place e) ⌝ }
-    ensures { λ r. ⌜ r ≡ fitsAhead (t .interval .0) (heldOf (putIn t place e)) ⌝ }
+    ensures { λ r. ⌜ r ≡ fitsAhead (t .frame) (heldOf (putIn t place e)) ⌝ }
 {
-    let interval = t.interval;
-    let mut ranks = [0u64; 32];
-    let mut owed = [0u32; 32];
-    let mut ends = [ahead_figures::NEVER; 32];
-    let mut lives = [0u32; 32];
-    let mut amounts = [0u32; 32];
-    let mut periods = [0u32; 32];
+    let room = spec_model::room_in(t.frame);
+    let mut ranks = [0u64; spec_model::PLACES];
+    let mut owed = [0u32; spec_model::PLACES];
+    let mut ends = [ahead_figures::NEVER.0; spec_model::PLACES];
+    let mut lives = [0u32; spec_model::PLACES];
+    let mut loads = [0u32; spec_model::PLACES];
+    let mut begins = [0u32; spec_model::PLACES];
+    let mut periods = [0u32; spec_model::PLACES];
     ahead_figures::read_table(
         t,
         used,
@@ -88,25 +93,41 @@ pub fn fits_ahead(t: Table, used: usize, place: usize, e: Entry) -> bool
         &mut owed,
         &mut ends,
         &mut lives,
-        &mut amounts,
+        &mut loads,
+        &mut begins,
         &mut periods,
     );
     let f = ahead_figures::figures_of(e);
-    ranks[place] = f.rank;
-    owed[place] = f.owed;
-    ends[place] = f.end;
-    lives[place] = f.life;
-    amounts[place] = f.amount;
-    periods[place] = f.period;
+    ahead_figures::enter(
+        f,
+        place,
+        &mut ranks,
+        &mut owed,
+        &mut ends,
+        &mut lives,
+        &mut loads,
+        &mut begins,
+        &mut periods,
+    );
     let last = used_with(used, place);
     goes_well(
-        interval,
+        room,
         last,
         &mut ranks,
         &mut owed,
         &mut ends,
         &lives,
-        &mut amounts,
+        &mut loads,
+        &mut begins,
         &periods,
     )
+}
+
+// Looks ahead from a table alone: it is itself with the entry of its first place put there.
+pub fn fits(t: Table, used: usize) -> bool
+    requires { ⌜ Tidy t × Used used t ⌝ }
+    ensures { λ r. ⌜ r ≡ fitsAhead (t .frame) (heldOf t) ⌝ }
+{
+    let e = t.entries[0];
+    fits_ahead(t, used, 0, e)
 }

@@ -8,11 +8,12 @@ use native.Mathlib.Numerals.{add-one}
 use native.Mathlib.Omega.{arith}
 use lib.Dec.{eqb}
 use lib.ListN.{length, take, drop, set, getD}
-use Rattle.base_lists.specs.Tests.{cond-zero}
 use Rattle.spec_lists.specs.All.{and}
+use Rattle.base_lists.specs.Tests.{cond-zero}
 use Rattle.base_lists.specs.Loops.{summed, summed-more}
 use Rattle.base_lists.specs.Spare.{Spare, spare-sum}
 use Rattle.table_queue.specs.Zips.{zip, length-zip, zip-at, zip-spare}
+use Rattle.table_queue.specs.Queues.{largest32}
 use Rattle.ahead_serve.specs.Serving.{Owing, dueOf, unpaid}
 use Rattle.ahead_serve.specs.Laws.{length-unpaid}
 
@@ -63,7 +64,7 @@ less-due false o = omega arith
 pub record Paying (at : ℕ) (ends owed : List ℕ) (used i due : ℕ) (left : List ℕ) : Type 0 where
   pub inside : i ≤ used
   pub paid : due ≡ summed (λ v. v) i (zip (dueAt at) ends owed)
-  pub small : due ≤ 4294967295 * i
+  pub small : due ≤ largest32 * i
   pub so-far : left ≡ replaced i (unpaid at ends owed) owed
 
 module _ {at : ℕ} {ends owed : List ℕ} {used : ℕ} where
@@ -71,7 +72,7 @@ module _ {at : ℕ} {ends owed : List ℕ} {used : ℕ} where
   paying-none = record { inside = omega arith; paid = refl; small = omega arith; so-far = refl }
 
   module _ (w : Owing ends owed used) {i due : ℕ} {left : List ℕ} (p : Paying at ends owed used i due left) where
-    pub paying-more : {x : ℕ} → i < used → x ≡ dueAt at (getD ends i 0) (getD left i 0) → x ≤ 4294967295
+    pub paying-more : {x : ℕ} → i < used → x ≡ dueAt at (getD ends i 0) (getD left i 0) → x ≤ largest32
         → Paying at ends owed used (i + 1) (due + x) (set left i (getD left i 0 - x))
     paying-more {x} h q b =
         let n : i < length ends = omega (arith, w .keyed, w .short) in

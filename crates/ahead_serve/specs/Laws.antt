@@ -12,9 +12,10 @@ use lib.Dec.{eqb, ltb}
 use lib.ListN.{length, getD, set, length-set}
 use lib.Seq.{ext-getD, getD-set-same, getD-set-other}
 use borrow.Author.Tests.{lt-ltb, le-ltb}
-use Rattle.base_lists.specs.Tests.{cond-zero}
 use Rattle.spec_lists.specs.All.{stop, and}
+use Rattle.base_lists.specs.Tests.{cond-zero}
 use Rattle.base_lists.specs.Spare.{Spare, spare-end}
+use Rattle.spec_model.specs.Tables.{places}
 use Rattle.table_queue.specs.Zips.{zip, length-zip, zip-at}
 use Rattle.table_queue.specs.Queues.{owedBelow, pieceOf}
 use Rattle.ahead_serve.specs.Serving.{leftOf, unpaid, Owing, Ranked, First}
@@ -49,7 +50,7 @@ spare-less (suc n) owed [] l h = stop
 spare-less (suc n) [] (x ∷ less) l h = spare-less n [] less (λ i. l (suc i)) (spare-end 0 n [] zero-le)
 spare-less (suc n) (o ∷ owed) (x ∷ less) l h = spare-less n owed less (λ i. l (suc i)) h
 
-module _ {keys owed : List ℕ} {used : ℕ} (less : List ℕ) (s : length less ≡ 32) (l : (i : ℕ) → getD less i 0 ≤ getD owed i 0) where
+module _ {keys owed : List ℕ} {used : ℕ} (less : List ℕ) (s : length less ≡ places) (l : (i : ℕ) → getD less i 0 ≤ getD owed i 0) where
   owing-less : Owing keys owed used → Owing keys less used
   owing-less w = record { keyed = w .keyed; room = s; short = w .short; spare = spare-less used owed less l (w .spare) }
 
@@ -69,10 +70,10 @@ less-min : (o d : ℕ) → o - min o d ≡ o - d
 less-min o d = omega arith
 
 module _ (c : ℕ) {ranks owed : List ℕ} {used : ℕ} (w : Owing ranks owed used) where
-  pub length-left : length (leftOf c ranks owed) ≡ 32
+  pub length-left : length (leftOf c ranks owed) ≡ places
   length-left = omega (arith, length-zip (λ k o. o - pieceOf c ranks owed k o) ranks owed, w .keyed, w .room)
 
-  left-at : (i : ℕ) → i < 32 → getD (leftOf c ranks owed) i 0 ≡ stays c ranks owed i
+  left-at : (i : ℕ) → i < places → getD (leftOf c ranks owed) i 0 ≡ stays c ranks owed i
   left-at i h =
       zip-at (λ k o. o - pieceOf c ranks owed k o) ranks owed i 0 0 0 (omega (arith, w .keyed)) (omega (arith, w .room))
       ∙ less-min (getD owed i 0) (c - owedBelow (getD ranks i 0) ranks owed)
@@ -86,14 +87,14 @@ module _ (c : ℕ) {ranks owed : List ℕ} {used : ℕ} (w : Owing ranks owed us
   pub left-none : c ≡ 0 → owed ≡ leftOf c ranks owed
   left-none e = left-same (λ i. omega arith)
 
-  pub left-nobody : {k : ℕ} → First ranks owed k → 32 ≤ k → owed ≡ leftOf c ranks owed
+  pub left-nobody : {k : ℕ} → First ranks owed k → places ≤ k → owed ≡ leftOf c ranks owed
   left-nobody {k} f h = left-same (λ i. go (getD owed i 0) (c - owedBelow (getD ranks i 0) ranks owed) (λ p. f .least i p .0))
     where
-      go : (o d : ℕ) → (0 < o → k < 32) → o - d ≡ o
+      go : (o d : ℕ) → (0 < o → k < places) → o - d ≡ o
       go zero d l = omega arith
       go (suc o) d l = absurd (omega (arith, l (omega arith)))
 
-pub length-unpaid : (at : ℕ) {ends owed : List ℕ} {used : ℕ} → Owing ends owed used → length (unpaid at ends owed) ≡ 32
+pub length-unpaid : (at : ℕ) {ends owed : List ℕ} {used : ℕ} → Owing ends owed used → length (unpaid at ends owed) ≡ places
 length-unpaid at {ends} {owed} w = omega (arith, length-zip (λ e o. cond (eqb e at) 0 o) ends owed, w .keyed, w .room)
 
 -- ---- what is owed at lower ranks than r: nothing, where r is the lowest that is owed something
@@ -123,7 +124,7 @@ own-left : (o c x : ℕ) → x ≡ min o c → o - x - (c - x) ≡ o - c
 own-left o c x e = omega arith
 
 -- ---- of c slots the place of the lowest rank gets its piece x
-module _ {ranks owed : List ℕ} {used k x : ℕ} (c : ℕ) (w : Ranked ranks owed used) (f : First ranks owed k) (h : k < 32)
+module _ {ranks owed : List ℕ} {used k x : ℕ} (c : ℕ) (w : Ranked ranks owed used) (f : First ranks owed k) (h : k < places)
     (e : x ≡ min (getD owed k 0) c) where
   abbrev own : ℕ
   own = getD owed k 0
@@ -161,7 +162,7 @@ module _ {ranks owed : List ℕ} {used k x : ℕ} (c : ℕ) (w : Ranked ranks ow
   pub served-left : leftOf (c - x) ranks served ≡ leftOf c ranks owed
   served-left = ext-getD 0 _ _ (size ∙ sym (length-left c (w .owing))) (λ i l. each i (omega (arith, size)))
     where
-      size : length (leftOf (c - x) ranks served) ≡ 32
+      size : length (leftOf (c - x) ranks served) ≡ places
       size = length-left (c - x) (served-ranked .owing)
 
       same : (i : ℕ) → stays (c - x) ranks served i ≡ stays c ranks owed i
@@ -171,5 +172,5 @@ module _ {ranks owed : List ℕ} {used k x : ℕ} (c : ℕ) (w : Ranked ranks ow
             | no n ↦ stays-other i n
           ]
 
-      each : (i : ℕ) → i < 32 → getD (leftOf (c - x) ranks served) i 0 ≡ getD (leftOf c ranks owed) i 0
+      each : (i : ℕ) → i < places → getD (leftOf (c - x) ranks served) i 0 ≡ getD (leftOf c ranks owed) i 0
       each i l = left-at (c - x) (served-ranked .owing) i l ∙ same i ∙ sym (left-at c (w .owing) i l)

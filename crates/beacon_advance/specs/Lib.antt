@@ -1,1 +1,3 @@
+pub mod Zipped
+pub mod Moving
 pub mod Next

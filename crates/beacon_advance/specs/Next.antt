@@ -1,50 +1,34 @@
--- A table after an interval, and the deadlines that the interval misses, in a form that reads the table's places one by one: each is
--- what document 01 says of the held entries, in step F of "One beacon" and in "Looking ahead". Assumes nothing.
+-- A table moved on by the grants that document 01 names, step F of "One beacon": by any lists of them, and by those of steps B and C.
+-- Assumes nothing.
 use mathlib.Core.Path.{_≡_, sym, ap, _∙_}
-use mathlib.Core.List.{List, map}
-use Prim.Native.Nat.{ℕ, _+_, _≤_, _<_, max}
-use lib.ListN.{length, getD}
+use mathlib.Core.List.{List, map, map-id}
+use Prim.Native.Nat.{ℕ, _<_}
+use native.Mathlib.Omega.{arith}
+use lib.ListN.{length, getD, length-map}
 use Rattle.spec_lists.specs.All.{All}
-use Rattle.base_lists.specs.All.{all-map, map-ext}
-use Rattle.base_lists.specs.Loops.{mapped, mapped-at}
+use Rattle.base_lists.specs.All.{all-at, all-map, map-ext}
 use Rattle.spec_model.specs.Entries.{freeEntry}
+use Rattle.spec_model.specs.Tables.{heldOf, withEntries}
 use Rattle.spec_model.specs.declared.Entry.{Entry}
 use Rattle.spec_model.specs.declared.Table.{Table}
-use Rattle.spec_rules.specs.Share.{capacity}
-use Rattle.spec_rules.specs.Ahead.{stepF, misses}
-use Rattle.spec_rules.specs.Calls.{heldOf, advanced}
-use Rattle.law_steps.specs.Settled.{after, after-free}
-use Rattle.law_steps.specs.StepB.{stepBOf}
-use Rattle.law_steps.specs.Extras.{stepCOf, extra-le}
-use Rattle.law_steps.specs.Places.{Tidy}
+use Rattle.spec_rules.specs.Share.{Grant, slotsFor, stepB, stepC}
+use Rattle.spec_rules.specs.Ahead.{stepF}
+use Rattle.spec_rules.specs.Calls.{advanced}
+use Rattle.spec_rules.specs.WellFormed.{Tidy}
+use Rattle.law_steps.specs.Settled.{after-free}
+use Rattle.law_steps.specs.Extras.{extra-le}
 use Rattle.law_steps.specs.Closed.{at-places, had-most}
-use Rattle.spec_rules.specs.Tables.{withEntries}
-use Rattle.beacon_share.specs.Shares.{granted, sharingOf, grantOf, grants-right}
+use Rattle.table_queue.specs.Zips.{zip, zip-map}
+use Rattle.table_queue.specs.Queues.{Used}
+use Rattle.beacon_share.specs.Shares.{granted, sharingOf, sharesOf, grantOf, grant-found, grants-right}
 use Rattle.beacon_share.specs.declared.Granted.{Granted}
+use Rattle.beacon_share.specs.declared.Shares.{Shares}
 use Rattle.beacon_share.specs.declared.Sharing.{Sharing}
-
--- a loop that moves the places on has not yet come to place i
-pub unmoved : (t : Table) (f : Entry → Entry) {next : Table} {i : ℕ} → next ≡ withEntries t (mapped f i (t .entries))
-    → i < length (t .entries) → getD (next .entries) i freeEntry ≡ getD (t .entries) i freeEntry
-unmoved t f {i = i} e h = ap (λ (u : Table). getD (u .entries) i freeEntry) e ∙ mapped-at f (t .entries) i freeEntry h
-
--- what an entry was given in its period, with its grant, is no more than an amount of its request: it has 32 bits
-abbrev pub WithinAmounts : Granted → Entry → Type 0
-WithinAmounts g e = e .given .0 + g .piece .0 + g .extra .0 ≤ max (e .min .0) (e .max .0)
-
--- what becomes of an entry by its grant
-abbrev pub afterGrant : Granted → Entry → Entry
-afterGrant g e = after (g .piece .0) (g .extra .0) e
+use Rattle.beacon_advance.specs.Moving.{WithinAmounts, afterGrant, Movable, movedBy}
 
 module _ (t : Table) (w : Tidy t) where
-  abbrev B : ℕ
-  B = t .interval .0
-
   abbrev es : List Entry
   es = heldOf t
-
-  pub grants-within : (s : Sharing) → All (λ e. WithinAmounts (grantOf s (t .entries) e) e) (t .entries)
-  grants-within s = had-most t w (s .capacity .0) (λ e. grantOf s (t .entries) e .extra .0) (λ e. extra-le _ _ _)
 
   -- a map over the places, by the grants of the held entries
   same-after : (g h : Entry → Granted) → All (λ e. g e ≡ h e) es
@@ -55,9 +39,34 @@ module _ (t : Table) (w : Tidy t) where
       (after-free (g freeEntry .piece .0) (g freeEntry .extra .0) ∙ sym (after-free (h freeEntry .piece .0) (h freeEntry .extra .0)))
       (all-map (λ e k. ap (λ x. afterGrant x e) k) q))
 
-  pub advanced-places :
-      withEntries t (map (λ e. afterGrant (grantOf (sharingOf t) (t .entries) e) e) (t .entries)) ≡ advanced t
-  unfolding advanced stepF
-  advanced-places =
+  -- by lists of grants, where each place has what the lists have for the entry held there; a free place stays free
+  pub moved-grants : (bs cs : List Grant) (g : Entry → Granted)
+      → All (λ e. g e ≡ granted (slotsFor (e .name) bs) (slotsFor (e .name) cs)) es
+      → {s : Shares} → s .grants ≡ map g (t .entries) → movedBy s t ≡ withEntries t (stepF bs cs (t .entries))
+  unfolding stepF
+  moved-grants bs cs g q e =
       ap (withEntries t)
-      (same-after (grantOf (sharingOf t) (t .entries)) (λ e. granted (stepBOf B es e) (stepCOf B es e)) (grants-right t w))
+      (ap (λ gs. zip afterGrant gs (t .entries)) e
+      ∙ ap (zip afterGrant (map g (t .entries))) (sym (map-id (t .entries)))
+      ∙ zip-map afterGrant g (λ e. e) (t .entries)
+      ∙ same-after g (λ e. granted (slotsFor (e .name) bs) (slotsFor (e .name) cs)) q)
+
+  -- by the table's own shares
+  pub moved-shares : {s : Shares} → s ≡ sharesOf t → movedBy s t ≡ advanced t
+  unfolding advanced
+  moved-shares e =
+      moved-grants (stepB (t .frame) es) (stepC (t .frame) es) (grantOf (sharingOf t) (t .entries)) (grants-right t w)
+      (ap (λ (x : Shares). x .grants) e)
+
+  grants-within : (s : Sharing) → All (λ e. WithinAmounts (grantOf s (t .entries) e) e) (t .entries)
+  grants-within s = had-most t w (s .capacity .0) (λ e. grantOf s (t .entries) e .extra .0) (λ e. extra-le _ _ _)
+
+  pub shares-movable : {n : ℕ} {s : Shares} → Used n t → s ≡ sharesOf t → Movable t n s
+  shares-movable {n} {s} u e = record {
+    used = u;
+    sized = ap (λ (x : Shares). length (x .grants)) e ∙ length-map (t .entries) _;
+    within = λ i h.
+        let k : i < length (t .entries) = omega (arith, u .0, w .size) in
+        rw (grant-found t e i k)
+        (all-at (λ e. WithinAmounts (grantOf (sharingOf t) (t .entries) e) e) (t .entries) freeEntry (grants-within (sharingOf t)) i k);
+  }

@@ -1,15 +1,10 @@
 // The table after an interval: step F of document 01, "One beacon", first of one entry, then of all.
 ghost use mathlib.Core.Path.{_≡_};
 ghost use Rattle.spec_rules.specs.Ahead.{passed, renewed, settled};
-ghost use Rattle.beacon_advance.specs.Next.{WithinAmounts, afterGrant};
-ghost use Rattle.spec_rules.specs.Calls.{advanced};
-ghost use Rattle.law_steps.specs.Places.{Tidy};
-ghost use Rattle.table_queue.specs.Queues.{Used};
-ghost use Rattle.beacon_share.specs.Shares.{sharesOf};
+ghost use Rattle.beacon_advance.specs.Moving.{WithinAmounts, afterGrant, Movable, movedBy};
 use beacon_share::Granted;
 use beacon_share::Shares;
 use spec_model::Entry;
-use spec_model::Slots;
 use spec_model::Table;
 
 // Owed falls by its piece, given grows by its piece and its extra, life and intervals left fall by one; kind 1 has a life alone.
@@ -75,20 +70,17 @@ pub fn after_grant(e: Entry, g: Granted) -> Entry
     settled(passed(e, g))
 }
 
-// The loop stops after the last place that is held: a free place stays free. It reads each entry where it writes the next one, so that one
-// copy of the table is made, not two.
+// The table by what each place is given, whoever planned it: for the table's own shares it is step F's (Next.moved-shares). The loop stops after
+// the last place that is held: a free place stays free. It reads each entry where it writes the next one, so that one copy of the table is
+// made, not two.
 pub fn advance(t: Table, used: usize, s: Shares) -> Table
-    requires { ⌜ Tidy t × Used used t ⌝ }
-    requires { ⌜ s ≡ sharesOf t ⌝ }
-    ensures { λ r. ⌜ r ≡ advanced t ⌝ }
+    requires { ⌜ Movable t used s ⌝ }
+    ensures { λ r. ⌜ r ≡ movedBy s t ⌝ }
 {
     let mut next = t;
     for i in 0..used {
         let e = next.entries[i];
-        let g = Granted {
-            piece: Slots(s.pieces[i]),
-            extra: Slots(s.extras[i]),
-        };
+        let g = s.grants[i];
         let n = after_grant(e, g);
         next.entries[i] = n;
     }

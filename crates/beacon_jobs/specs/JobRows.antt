@@ -11,12 +11,18 @@ use Rattle.spec_lists.specs.All.{All, stop, and}
 use Rattle.base_lists.specs.All.{all-map, all-of-map, all-keep}
 use Rattle.base_lists.specs.Sums.{sum-keep-le}
 use Rattle.spec_model.specs.Entries.{freeEntry, isHeld}
+use Rattle.spec_model.specs.Names.{nobody}
+use Rattle.spec_model.specs.Frames.{slotsIn}
+use Rattle.spec_model.specs.Tables.{places, heldOf}
+use Rattle.spec_model.specs.declared.Frame.{Frame}
+use Rattle.spec_model.specs.declared.Name.{Name}
 use Rattle.spec_model.specs.declared.Entry.{Entry}
 use Rattle.spec_model.specs.declared.Table.{Table}
 use Rattle.spec_rules.specs.Share.{Grant, jobCount, stepB, stepC}
 use Rattle.spec_rules.specs.Slots.{Job, jobsFrom, jobsOf, jobNeed, jobLength, jobs, tieOrder, stepD, stepE}
-use Rattle.spec_rules.specs.Calls.{places, heldOf, planOf}
-use Rattle.law_steps.specs.Places.{Tidy, tidy-held}
+use Rattle.spec_rules.specs.Calls.{planOf}
+use Rattle.spec_rules.specs.WellFormed.{Tidy}
+use Rattle.law_steps.specs.Places.{tidy-held}
 use Rattle.law_steps.specs.Closed.{slots-most}
 use Rattle.law_ahead.specs.Tables.{tidy-together}
 use Rattle.law_interval.specs.Jobs.{tie-sum, all-tie, jobs-keys}
@@ -35,34 +41,36 @@ use Rattle.beacon_plan.specs.Skipped.{Skipped, over, skipped-append, skipped-na
 use Rattle.beacon_jobs.specs.Needs.{needBy, rowBy}
 use Rattle.beacon_jobs.specs.Limits.{free-none, length-free, length-held}
 use Rattle.beacon_jobs.specs.Listing.{Listed, entryAt, rowsIn, rows-size, rows-spare}
-use Rattle.beacon_jobs.specs.Making.{Made, streamOf, lengthIn, needIn}
+use Rattle.beacon_jobs.specs.Making.{Made, nameIn, lengthIn, needIn}
 
-module _ (B : ℕ) (s : Sharing) (ps : List Entry) where
+module _ (F : Frame) (s : Sharing) (ps : List Entry) where
   abbrev rowsOf : List Entry → List Job
-  rowsOf os = rowJobs (map (λ e. e .stream) os) (map (jobLength B) os) (map (rowBy s ps) os)
+  rowsOf os = rowJobs (map nameIn os) (map (jobLength F) os) (map (rowBy s ps) os)
 
   -- free places at the end
   free-skipped : (n : ℕ) → needBy (grantOf s ps freeEntry) freeEntry ≡ 0 → Skipped (rowsOf (replicate n freeEntry)) []
   unfolding rowJobs jobsFrom
   free-skipped zero z = over
   free-skipped (suc n) z =
-      skipped-append (subst (λ v. Skipped (rowFrom 0 B 0 (needsRow 1 v)) []) (sym z) (row-skipped 0 16 0 B 0 0)) (free-skipped n z)
+      skipped-append
+      (subst (λ v. Skipped (rowFrom nobody (slotsIn F) 0 (needsRow 1 v)) []) (sym z) (row-skipped 0 16 nobody (slotsIn F) 0 0))
+      (free-skipped n z)
 
   rows-skipped : (bs cs : List Grant) (n : ℕ) → needBy (grantOf s ps freeEntry) freeEntry ≡ 0
       → {os : List Entry} → All (λ e. needBy (grantOf s ps e) e ≡ jobNeed bs cs e) os
-      → Skipped (rowsOf (os ++ replicate n freeEntry)) (concatMap (jobsOf B bs cs) os)
+      → Skipped (rowsOf (os ++ replicate n freeEntry)) (concatMap (jobsOf F bs cs) os)
   unfolding rowJobs
   rows-skipped bs cs n z stop = free-skipped n z
   rows-skipped bs cs n z (and {x = e} q h) =
       skipped-append
-      (subst (λ v. Skipped (rowFrom (e .stream) (jobLength B e) 0 (needsRow (jobCount e) v)) (jobsOf B bs cs e)) (sym q)
-      (row-skipped (jobCount e) (16 - jobCount e) (e .stream) (jobLength B e) (jobNeed bs cs e) 0))
+      (subst (λ v. Skipped (rowFrom (e .name) (jobLength F e) 0 (needsRow (jobCount e) v)) (jobsOf F bs cs e)) (sym q)
+      (row-skipped (jobCount e) (16 - jobCount e) (e .name) (jobLength F e) (jobNeed bs cs e) 0))
       (rows-skipped bs cs n z h)
 
 -- ---- a table's rows
 module _ (t : Table) (w : Tidy t) where
-  abbrev B : ℕ
-  B = t .interval .0
+  abbrev F : Frame
+  F = t .frame
 
   abbrev es : List Entry
   es = heldOf t
@@ -89,26 +97,26 @@ module _ (t : Table) (w : Tidy t) where
         w .size,
       )
 
-  own-needs : All (λ e. needBy (grantOf sh (t .entries) e) e ≡ jobNeed (stepB B es) (stepC B es) e) (tieOrder es)
+  own-needs : All (λ e. needBy (grantOf sh (t .entries) e) e ≡ jobNeed (stepB F es) (stepC F es) e) (tieOrder es)
   own-needs = all-tie (tidy-held w) (all-map (λ e q. ap (λ g. needBy g e) q) (grants-right t w))
 
-  table-skipped : Skipped (rowsOf B sh (t .entries) os) (jobs B es)
+  table-skipped : Skipped (rowsOf F sh (t .entries) os) (jobs F es)
   unfolding jobs
   table-skipped =
-      subst (λ l. Skipped (rowsOf B sh (t .entries) l) (jobs B es)) (sym (filled-behind (tieOrder es) tie-few))
-      (rows-skipped B sh (t .entries) (stepB B es) (stepC B es) (places - length (tieOrder es)) (free-none t w) own-needs)
+      subst (λ l. Skipped (rowsOf F sh (t .entries) l) (jobs F es)) (sym (filled-behind (tieOrder es) tie-few))
+      (rows-skipped F sh (t .entries) (stepB F es) (stepC F es) (places - length (tieOrder es)) (free-none t w) own-needs)
 
-  rows-fit : Rows B (map (λ (e : Entry). e .stream) os) (map (jobLength B) os) (map (rowBy sh (t .entries)) os)
+  rows-fit : Rows (slotsIn F) (map nameIn os) (map (jobLength F) os) (map (rowBy sh (t .entries)) os)
   rows-fit =
       record {
         short = slots-most t w;
-        each = all-of-map (jobLength B) (filled-all _ (length-free t w) (all-tie (tidy-held w) (length-held t w)));
+        each = all-of-map (jobLength F) (filled-all _ (length-free t w) (all-tie (tidy-held w) (length-held t w)));
         names = skipped-names table-skipped (jobs-keys (tidy-together w));
       }
 
-  rows-plan : rowPlan B (map (λ (e : Entry). e .stream) os) (map (jobLength B) os) (map (rowBy sh (t .entries)) os) ≡ planOf t
+  rows-plan : rowPlan (slotsIn F) (map nameIn os) (map (jobLength F) os) (map (rowBy sh (t .entries)) os) ≡ planOf t
   unfolding planOf stepE stepD
-  rows-plan = plan-skipped B _ _ _ table-skipped
+  rows-plan = plan-skipped (slotsIn F) _ _ _ table-skipped
 
   -- a row has room for the jobs
   counts-few : All (λ e. jobCount e ≤ 16) os
@@ -128,44 +136,41 @@ module _ (t : Table) (w : Tidy t) {n : ℕ} (u : Used n t) {o : Order} (e : o �
       rw e
       (record {
         few = few;
-        room = omega (arith, length-append ps (replicate (32 - length ps) 0));
-        each = rw (take-append-seam ps (replicate (32 - length ps) 0)) (listed-places t w n (u .0) (u .1));
+        room = omega (arith, length-append ps (replicate (places - length ps) 0));
+        each = rw (take-append-seam ps (replicate (places - length ps) 0)) (listed-places t w n (u .0) (u .1));
       })
 
   rows-tied : rowsIn t o ≡ filled (tieOrder (heldOf t))
   rows-tied =
       ap (rowsIn t) e
-      ∙ ap (λ l. filled (map (entryAt t) l)) (take-append-seam ps (replicate (32 - length ps) 0))
+      ∙ ap (λ l. filled (map (entryAt t) l)) (take-append-seam ps (replicate (places - length ps) 0))
       ∙ ap filled (listed-ties t w n (u .0) (u .1))
 
-  module _ {ss Ts cs ns : List ℕ} (m : Made t o ss Ts cs ns) where
+  module _ {ss : List Name} {Ts cs ns : List ℕ} (m : Made t o ss Ts cs ns) where
     -- the needs that the plan makes are the rows of the entries
     needs-made : needRows cs ns ≡ map (rowBy (sharingOf t) (t .entries)) (rowsIn t o)
     needs-made = rw (m .counts, m .needs) (needs-map jobCount (needIn t) (rowsIn t o))
 
-    pub plan-made : Rows (t .interval .0) ss Ts (needRows cs ns) × (rowPlan (t .interval .0) ss Ts (needRows cs ns) ≡ planOf t)
-    plan-made = rw (m .streams, m .lengths, needs-made, rows-tied) (rows-fit t w, rows-plan t w)
+    pub plan-made : Rows (slotsIn (t .frame)) ss Ts (needRows cs ns) × (rowPlan (slotsIn (t .frame)) ss Ts (needRows cs ns) ≡ planOf t)
+    plan-made = rw (m .names, m .lengths, needs-made, rows-tied) (rows-fit t w, rows-plan t w)
 
-    pub spare-made : (o .count ≤ 32) × Spare (t .interval .0) (o .count) Ts (needRows cs ns)
+    pub spare-made : (o .count ≤ places) × Spare (slotsIn (t .frame)) (o .count) Ts (needRows cs ns)
     spare-made = (
       order-listed .few,
       rw (m .lengths, needs-made)
           (record {
-            lengths = rows-spare t o order-listed (jobLength (t .interval .0));
+            lengths = rows-spare t o order-listed (jobLength (t .frame));
             needs = subst (λ r. All (λ ns. ns ≡ r) (drop (o .count) (map (rowBy (sharingOf t) (t .entries)) (rowsIn t o))))
                 (ap (needsRow 1) (free-none t w)) (rows-spare t o order-listed (rowBy (sharingOf t) (t .entries)));
           }),
     )
 
-    pub sized-made : (length ss ≡ 32) × ((length Ts ≡ 32) × Counted cs ns)
+    pub sized-made : (length Ts ≡ places) × Counted cs ns
     sized-made = (
-      ap length (m .streams) ∙ rows-size t o order-listed streamOf,
-      (
-        ap length (m .lengths) ∙ rows-size t o order-listed (lengthIn t),
-        record {
-          counts-sized = ap length (m .counts) ∙ rows-size t o order-listed jobCount;
-          each-sized = ap length (m .needs) ∙ rows-size t o order-listed (needIn t);
-          few = rw (m .counts, rows-tied) (all-of-map jobCount (counts-few t w));
-        },
-      ),
+      ap length (m .lengths) ∙ rows-size t o order-listed (lengthIn t),
+      record {
+        counts-sized = ap length (m .counts) ∙ rows-size t o order-listed jobCount;
+        each-sized = ap length (m .needs) ∙ rows-size t o order-listed (needIn t);
+        few = rw (m .counts, rows-tied) (all-of-map jobCount (counts-few t w));
+      },
     )

@@ -13,7 +13,7 @@ use Rattle.base_lists.specs.Spare.{Spare, spare-map, begun, begun-more, begun-a
 use Rattle.spec_model.specs.Entries.{freeEntry}
 use Rattle.spec_model.specs.declared.Entry.{Entry}
 use Rattle.spec_model.specs.declared.Table.{Table}
-use Rattle.spec_rules.specs.Calls.{places}
+use Rattle.spec_model.specs.Tables.{places}
 use Rattle.beacon_order.specs.Filled.{filled, filled-behind}
 use Rattle.beacon_order.specs.declared.Order.{Order}
 
@@ -25,9 +25,9 @@ rowsIn t o = filled (map (entryAt t) (take (o .count) (o .places)))
 
 -- an order of places that a table has
 pub record Listed (o : Order) : Type 0 where
-  pub few : o .count ≤ 32
+  pub few : o .count ≤ places
   pub room : o .count ≤ length (o .places)
-  pub each : All (λ p. p < 32) (take (o .count) (o .places))
+  pub each : All (λ p. p < places) (take (o .count) (o .places))
 
 module _ (t : Table) (o : Order) (w : Listed o) where
   abbrev listedPlaces : List ℕ
@@ -46,10 +46,10 @@ module _ (t : Table) (o : Order) (w : Listed o) where
   behind = filled-behind found (omega (arith, found-size, w .few))
 
   -- the place that row k reads, and what stands there
-  pub place-inside : (k : ℕ) → k < o .count → getD (o .places) k 0 < 32
+  pub place-inside : (k : ℕ) → k < o .count → getD (o .places) k 0 < places
   place-inside k h =
-      subst (λ p. p < 32) (getD-take (o .count) (o .places) k 0 h)
-      (all-at (λ p. p < 32) listedPlaces 0 (w .each) k (omega (arith, size)))
+      subst (λ p. p < places) (getD-take (o .count) (o .places) k 0 h)
+      (all-at (λ p. p < places) listedPlaces 0 (w .each) k (omega (arith, size)))
 
   row-at : (k : ℕ) → k < o .count → getD (rowsIn t o) k freeEntry ≡ entryAt t (getD (o .places) k 0)
   row-at k h =
@@ -58,7 +58,7 @@ module _ (t : Table) (o : Order) (w : Listed o) where
       ∙ map-at (entryAt t) listedPlaces k 0 freeEntry (omega (arith, size))
       ∙ ap (entryAt t) (getD-take (o .count) (o .places) k 0 h)
 
-  row-length : length (rowsIn t o) ≡ 32
+  row-length : length (rowsIn t o) ≡ places
   row-length =
       ap length behind
       ∙ length-append found (replicate (places - length found) freeEntry)
@@ -72,22 +72,22 @@ module _ (t : Table) (o : Order) (w : Listed o) where
 
   -- ---- a loop that fills an array by the rows
   module _ {B : Type 0} (f : Entry → B) where
-    pub rows-size : length (map f (rowsIn t o)) ≡ 32
+    pub rows-size : length (map f (rowsIn t o)) ≡ places
     rows-size = length-map (rowsIn t o) f ∙ row-length
 
-    pub rows-more : {v : B} {ys : List B} (k : ℕ) → k < o .count → ys ≡ begun (f freeEntry) 32 k (map f (rowsIn t o))
-        → v ≡ f (entryAt t (getD (o .places) k 0)) → set ys k v ≡ begun (f freeEntry) 32 (k + 1) (map f (rowsIn t o))
+    pub rows-more : {v : B} {ys : List B} (k : ℕ) → k < o .count → ys ≡ begun (f freeEntry) places k (map f (rowsIn t o))
+        → v ≡ f (entryAt t (getD (o .places) k 0)) → set ys k v ≡ begun (f freeEntry) places (k + 1) (map f (rowsIn t o))
     rows-more k h p q =
-        begun-more (f freeEntry) 32 k (map f (rowsIn t o)) (f freeEntry) rows-size (omega (arith, w .few)) p
+        begun-more (f freeEntry) places k (map f (rowsIn t o)) (f freeEntry) rows-size (omega (arith, w .few)) p
         (q ∙ ap f (sym (row-at k h)) ∙ sym (map-at f (rowsIn t o) k freeEntry (f freeEntry) (omega (arith, row-length, w .few))))
 
     pub rows-spare : Spare (f freeEntry) (o .count) (map f (rowsIn t o))
     rows-spare = spare-map freeEntry f (o .count) (rowsIn t o) row-spare
 
-    pub rows-all : {ys : List B} (k : ℕ) → k ≤ o .count → o .count ≤ k → ys ≡ begun (f freeEntry) 32 k (map f (rowsIn t o))
+    pub rows-all : {ys : List B} (k : ℕ) → k ≤ o .count → o .count ≤ k → ys ≡ begun (f freeEntry) places k (map f (rowsIn t o))
         → ys ≡ map f (rowsIn t o)
     rows-all k h l p =
         let e : o .count ≡ k = omega arith in
         p
-        ∙ begun-all (f freeEntry) 32 k (map f (rowsIn t o)) rows-size
+        ∙ begun-all (f freeEntry) places k (map f (rowsIn t o)) rows-size
         (subst (λ n. Spare (f freeEntry) n (map f (rowsIn t o))) e rows-spare)

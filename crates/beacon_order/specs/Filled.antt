@@ -1,4 +1,4 @@
--- Entries in an array of 32 places, free entries behind them. Assumes nothing.
+-- Entries in an array with one for each place, free entries behind them. Assumes nothing.
 use mathlib.Core.Path.{_≡_, refl, ap}
 use mathlib.Core.List.{List, [], _∷_, _++_}
 use Prim.Native.Nat.{ℕ, zero, suc, _+_, _-_, _≤_}
@@ -9,9 +9,9 @@ use Rattle.spec_lists.specs.All.{All}
 use Rattle.base_lists.specs.All.{all-append, all-take, all-replicate}
 use Rattle.spec_model.specs.Entries.{freeEntry}
 use Rattle.spec_model.specs.declared.Entry.{Entry}
-use Rattle.spec_rules.specs.Calls.{places}
+use Rattle.spec_model.specs.Tables.{places}
 
--- the first 32 of the entries and free ones behind them
+-- the entries, as many as there are places, and free ones behind them
 abbrev pub filled : List Entry → List Entry
 filled es = take places (es ++ replicate places freeEntry)
 

@@ -11,19 +11,20 @@ use lib.ListN.{length, getD, take, drop, length-map, List·getD-map, take-append
 use lib.Seq.{drop-cons}
 use borrow.Author.Tests.{ne-eqb}
 use Rattle.spec_lists.specs.Lists.{keep, sort}
-use Rattle.base_lists.specs.Tests.{within-both}
 use Rattle.spec_lists.specs.All.{All}
 use Rattle.base_lists.specs.All.{head, tail, all-map, all-zip, all-of, all-of-map}
 use Rattle.spec_model.specs.Entries.{freeEntry, isHeld}
+use Rattle.spec_model.specs.Tables.{places, heldOf}
+use Rattle.spec_model.specs.declared.Frame.{Frame}
 use Rattle.spec_model.specs.declared.Entry.{Entry}
 use Rattle.spec_model.specs.declared.Table.{Table}
 use Rattle.spec_rules.specs.Slots.{tieOrder}
-use Rattle.spec_rules.specs.Calls.{heldOf}
-use Rattle.spec_rules.specs.WellFormed.{Held, Once}
+use Rattle.spec_rules.specs.WellFormed.{Held, Once, Tidy}
+use Rattle.law_model.specs.Names.{rank-some}
 use Rattle.law_steps.specs.Held.{held-is}
 use Rattle.law_steps.specs.Grants.{once-tail, once-apart}
-use Rattle.law_steps.specs.Places.{Tidy, tidy-held}
-use Rattle.law_steps.specs.Ranks.{rank, rankMost, held-rank}
+use Rattle.law_steps.specs.Places.{tidy-held}
+use Rattle.law_steps.specs.Ranks.{rank, rankMost, held-rank, rank-free}
 use Rattle.beacon_order.specs.Ties.{ties, sort-ties, ties-le}
 use Rattle.beacon_order.specs.Sorts.{Pairs, end, with, pairs-of, sort-ext, sort-map, keep-ext, keep-front, keep-map}
 use Rattle.beacon_order.specs.Listed.{placesFrom, isTaken, takenFrom, byRank, listed}
@@ -36,7 +37,7 @@ rankLe e f = leb (rank e) (rank f)
 abbrev isRanked : Entry → Bool
 isRanked e = not (eqb (rank e) 0)
 
-once-ties : {B : ℕ} (es : List Entry) → All (Held B) es → Once es → Pairs (λ e f. rankLe e f ≡ ties e f) es
+once-ties : {F : Frame} (es : List Entry) → All (Held F) es → Once es → Pairs (λ e f. rankLe e f ≡ ties e f) es
 once-ties [] h w = end
 once-ties (e ∷ es) h w =
     with (all-zip (λ f k n. ties-le (head h) k n) (tail h) (once-apart e es w)) (once-ties es (tail h) (once-tail e es w))
@@ -58,33 +59,31 @@ module _ (t : Table) (w : Tidy t) where
   at p = getD es p freeEntry
 
   rank-at : (p : ℕ) → getD ranks p 0 ≡ rank (at p)
-  rank-at p = List·getD-map rank es p freeEntry
+  rank-at p = ap (getD ranks p) (sym rank-free) ∙ List·getD-map rank es p freeEntry
 
   -- a free place has rank 0, and a held entry has not
   ranked-held : All (λ e. isRanked e ≡ isHeld e) es
   ranked-held = all-map one (w .entries)
     where
-      one : (e : Entry) → (e ≡ freeEntry) ⊎ Held (t .interval .0) e → isRanked e ≡ isHeld e
-      one e (inl q) = rw q
-      one e (inr h) =
-          let s = within-both 1 65535 (e .stream) (h .name) in
-          ap not (ne-eqb (rank e) 0 (λ z. omega arith)) ∙ sym (held-is h)
+      one : (e : Entry) → (e ≡ freeEntry) ⊎ Held (t .frame) e → isRanked e ≡ isHeld e
+      one e (inl q) = rw (q, rank-free)
+      one e (inr h) = ap not (ne-eqb (rank e) 0 (λ z. omega (arith, rank-some (e .name) (h .name)))) ∙ sym (held-is h)
 
   pub ranks-most : All (λ k. k ≤ rankMost) ranks
   ranks-most = all-of-map rank (all-map one (w .entries))
     where
-      one : (e : Entry) → (e ≡ freeEntry) ⊎ Held (t .interval .0) e → rank e ≤ rankMost
-      one e (inl q) = rw q zero-le
+      one : (e : Entry) → (e ≡ freeEntry) ⊎ Held (t .frame) e → rank e ≤ rankMost
+      one e (inl q) = rw (q, rank-free) zero-le
       one e (inr h) = held-rank h
 
   -- n is how many places are looked at: those behind them are free
-  module _ (n : ℕ) (l : n ≤ 32) (z : All (λ e. e ≡ freeEntry) (drop n es)) where
+  module _ (n : ℕ) (l : n ≤ places) (z : All (λ e. e ≡ freeEntry) (drop n es)) where
     taken-held : map at (takenFrom ranks n 0) ≡ heldOf t
     taken-held =
         ap (map at) (keep-ext (isTaken ranks) (λ p. isRanked (at p)) (all-of (placesFrom n 0) (λ p. ap (λ r. not (eqb r 0)) (rank-at p))))
         ∙ keep-map at isRanked (placesFrom n 0)
         ∙ ap (keep isRanked) (at-places es n 0 (omega (arith, w .size)))
-        ∙ sym (keep-front isRanked (take n es) (all-map (λ e q. ap isRanked q) z))
+        ∙ sym (keep-front isRanked (take n es) (all-map (λ e q. ap isRanked q ∙ ap (λ r. not (eqb r 0)) rank-free) z))
         ∙ ap (keep isRanked) (take-append-drop n es)
         ∙ keep-ext isRanked isHeld ranked-held
 
@@ -98,7 +97,7 @@ module _ (t : Table) (w : Tidy t) where
         ∙ sort-ext rankLe ties (once-ties (heldOf t) (tidy-held w) (w .once))
         ∙ sort-ties (tidy-held w)
 
-    pub listed-places : All (λ p. p < 32) (listed ranks n)
+    pub listed-places : All (λ p. p < places) (listed ranks n)
     listed-places = all-map (λ p h. omega arith) (listed-within ranks n)
 
     pub listed-length : length (listed ranks n) ≡ length (tieOrder (heldOf t))

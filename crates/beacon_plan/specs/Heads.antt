@@ -16,6 +16,7 @@ use Rattle.base_lists.specs.Tests.{and-false, and-true}
 use Rattle.spec_lists.specs.All.{All, stop}
 use Rattle.base_lists.specs.All.{all-map, all-of-map}
 use Rattle.base_lists.specs.Picked.{picked-one}
+use Rattle.spec_model.specs.declared.Name.{Name}
 use Rattle.spec_rules.specs.Slots.{Job, jobAt, dueFirst, choose}
 use Rattle.law_slots.specs.Choice.{Choice, takes, chooses, ready-both}
 use Rattle.beacon_plan.specs.Rows.{rowFrom, Padded}
@@ -44,12 +45,12 @@ none-yet t {js} h = go (choose t js) (chooses t js)
     go (some k) (takes pick r a) = absurd (omega (arith, ready-both t k r, picked-one pick h))
 
 -- job j of T slots, if it is released
-abbrev pub released : (t s T n j : ℕ) → Option Job
+abbrev pub released : (t : ℕ) (s : Name) (T n j : ℕ) → Option Job
 released t s T n j = cond (leb (j * T) t) (some (jobAt s T n j)) none
 
 -- By the row: a first job that needs nothing is not ready, and then it goes by the others. One that needs something is due before
 -- the others and released before them.
-pub row-choice : (t s T j : ℕ) (ns : List ℕ)
+pub row-choice : (t : ℕ) (s : Name) (T j : ℕ) (ns : List ℕ)
     → choose t (rowFrom s T j ns)
     ≡ cond (ltb (firstLeft ns) (length ns)) (released t s T (getD ns (firstLeft ns) 0) (j + firstLeft ns)) none
 unfolding rowFrom firstLeft choose

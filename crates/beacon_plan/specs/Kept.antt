@@ -7,6 +7,7 @@ use lib.ListN.{length, getD, set, drop, replicate, length-map}
 use lib.Seq.{map-set-same, getD-set-same}
 use Rattle.spec_lists.specs.All.{All, stop, and}
 use Rattle.base_lists.specs.All.{head, tail}
+use Rattle.spec_model.specs.Tables.{places}
 use Rattle.beacon_plan.specs.Rows.{Padded}
 use Rattle.beacon_plan.specs.RowLaws.{needAt, withNeed, spare-set}
 use Rattle.beacon_plan.specs.Heads.{firstLeft, left-stays, head-at, heads-set, heads-spare}
@@ -55,7 +56,7 @@ module _ {rows : ℕ} {Ts : List ℕ} {nss : List (List ℕ)} {hs rs : List ℕ}
   heads-sized : length hs ≡ length nss
   heads-sized = ap length (k .heads) ∙ length-map nss firstLeft
 
-  pub kept-padded : length Ts ≡ 32 → length nss ≡ 32 → rows ≤ 32 → Padded rows noRelease rs
+  pub kept-padded : length Ts ≡ places → length nss ≡ places → rows ≤ places → Padded rows noRelease rs
   kept-padded u v l = (
     ap length (k .releases) ∙ length-releases Ts hs (u ∙ sym v ∙ sym heads-sized) ∙ heads-sized ∙ v,
     (l, rw (k .releases, k .heads) (releases-spare rows Ts (map firstLeft nss) (heads-spare rows nss (k .spare)))),

@@ -9,6 +9,7 @@ use lib.ListN.{length, getD, set, take, replicate, length-append, length-replica
 use lib.Seq.{length-take-le}
 use Rattle.spec_lists.specs.All.{All, stop, and}
 use Rattle.base_lists.specs.Spare.{Filling}
+use Rattle.spec_model.specs.Tables.{places}
 use Rattle.beacon_plan.specs.RowLaws.{Wide}
 
 -- count jobs of one need
@@ -21,10 +22,10 @@ needRows [] ns = []
 needRows (c ∷ cs) [] = []
 needRows (c ∷ cs) (n ∷ ns) = needsRow c n ∷ needRows cs ns
 
--- at most sixteen jobs in each of 32 rows
+-- at most sixteen jobs in each row
 pub record Counted (counts each : List ℕ) : Type 0 where
-  pub counts-sized : length counts ≡ 32
-  pub each-sized : length each ≡ 32
+  pub counts-sized : length counts ≡ places
+  pub each-sized : length each ≡ places
   pub few : All (λ c. c ≤ 16) counts
 
 -- ---- one row
@@ -72,7 +73,7 @@ wide-rows stop ns = stop
 wide-rows (and p h) [] = stop
 wide-rows (and {x = c} p h) (n ∷ ns) = and (length-row c n p) (wide-rows h ns)
 
-pub counted-sized : {cs ns : List ℕ} → Counted cs ns → (length (needRows cs ns) ≡ 32) × Wide (needRows cs ns)
+pub counted-sized : {cs ns : List ℕ} → Counted cs ns → (length (needRows cs ns) ≡ places) × Wide (needRows cs ns)
 counted-sized {cs} {ns} w = (length-rows cs ns (w .counts-sized ∙ sym (w .each-sized)) ∙ w .counts-sized, wide-rows (w .few) ns)
 
 -- where both go by one list

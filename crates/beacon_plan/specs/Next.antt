@@ -11,6 +11,7 @@ use lib.ListN.{length, getD, drop}
 use lib.Seq.{drop-cons}
 use Rattle.spec_lists.specs.All.{All, stop, and}
 use Rattle.base_lists.specs.All.{all-map}
+use Rattle.spec_model.specs.declared.Name.{Name}
 use Rattle.spec_rules.specs.Slots.{jobAt}
 use Rattle.law_slots.specs.Events.{Quiet}
 use Rattle.beacon_plan.specs.Rows.{rowJobs, Length}
@@ -62,10 +63,10 @@ unfolding nextOf
 next-all b t [] = stop
 next-all b t (T ∷ Ts) = and {x = T} (omega arith) (all-map (λ U h. omega arith) (next-all b t Ts))
 
-pub next-quiet : (b t n : ℕ) (ss Ts : List ℕ) (nss : List (List ℕ)) → t + n ≤ nextOf b t Ts → All (Quiet n t) (rowJobs ss Ts nss)
+pub next-quiet : (b t n : ℕ) (ss : List Name) (Ts : List ℕ) (nss : List (List ℕ)) → t + n ≤ nextOf b t Ts → All (Quiet n t) (rowJobs ss Ts nss)
 next-quiet b t n ss Ts nss h = rows-all ss Ts nss (all-map one (next-all b t Ts))
   where
-    one : (T : ℕ) → nextOf b t Ts ≤ after T t → (s m j : ℕ) → Quiet n t (jobAt s T m j)
+    one : (T : ℕ) → nextOf b t Ts ≤ after T t → (s : Name) (m j : ℕ) → Quiet n t (jobAt s T m j)
     one T l s m j = go (apart T t j)
       where
         go : (j * T ≤ t) ⊎ (after T t ≤ j * T) → Quiet n t (jobAt s T m j)

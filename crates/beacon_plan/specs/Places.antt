@@ -15,6 +15,9 @@ use borrow.Author.Tests.{lt-ltb, le-ltb, le-leb, lt-leb, leb-true, leb-false, lt
 use Rattle.spec_lists.specs.All.{All, stop, and}
 use Rattle.base_lists.specs.All.{head, tail, all-map}
 use Rattle.spec_rules.specs.Slots.{Job, jobAt, isReady, dueFirst, choose}
+use Rattle.law_model.specs.Frames.{mostSlots}
+use Rattle.spec_model.specs.Tables.{places, noPlace}
+use Rattle.spec_model.specs.declared.Name.{Name}
 use Rattle.beacon_plan.specs.Rows.{rowFrom, rowJobs, Length}
 use Rattle.beacon_plan.specs.RowLaws.{Wide, jobIn}
 use Rattle.beacon_plan.specs.Heads.{firstLeft, released, row-choice}
@@ -62,9 +65,9 @@ noRelease = 4294967295
 
 -- lengths of an interval of at most 1,000 time units
 abbrev pub Short : List ℕ → Type 0
-Short Ts = All (λ (T : ℕ). T ≤ 1024000) Ts
+Short Ts = All (λ (T : ℕ). T ≤ mostSlots) Ts
 
-pub short : {b : ℕ} {Ts : List ℕ} → b ≤ 1024000 → All (Length b) Ts → Short Ts
+pub short : {b : ℕ} {Ts : List ℕ} → b ≤ mostSlots → All (Length b) Ts → Short Ts
 short h q = all-map (λ T p. omega arith) q
 
 -- when job h of T slots is released; h is 16 where a row has none left
@@ -89,16 +92,15 @@ placeFrom t i p d (T ∷ Ts) (r ∷ rs) =
     let x = dueBy t T r in
     placeFrom t (suc i) (cond (ltb x d) i p) (cond (ltb x d) x d) Ts rs
 
--- place 32 stands for none
 abbrev pub chosenAt : (t : ℕ) (lengths releases : List ℕ) → ℕ
-chosenAt t Ts rs = placeFrom t 0 32 noRelease Ts rs
+chosenAt t Ts rs = placeFrom t 0 noPlace noRelease Ts rs
 
 -- a row's choice, with when it is due
 data Offer (j : Job) : ℕ → Option Job → Type 0 where
   nothing : Offer j noRelease none
   one : j .due < noRelease → Offer j (j .due) (some j)
 
-row-offers : (t s T : ℕ) (ns : List ℕ) → length ns ≡ 16 → T ≤ 1024000 → t < noRelease
+row-offers : (t : ℕ) (s : Name) (T : ℕ) (ns : List ℕ) → length ns ≡ 16 → T ≤ mostSlots → t < noRelease
     → Offer (jobAt s T (getD ns (firstLeft ns) 0) (firstLeft ns)) (dueBy t T (releaseOf T (firstLeft ns))) (choose t (rowFrom s T 0 ns))
 unfolding releaseOf
 row-offers t s T ns e l k =
@@ -117,10 +119,10 @@ row-offers t s T ns e l k =
 
 -- the choice so far, which stands at place p and is due at d
 data Best (who : ℕ → Job) : ℕ → ℕ → Option Job → Type 0 where
-  nobody : Best who 32 noRelease none
-  somebody : {i : ℕ} → i < 32 → who i .due < noRelease → Best who i (who i .due) (some (who i))
+  nobody : Best who noPlace noRelease none
+  somebody : {i : ℕ} → i < places → who i .due < noRelease → Best who i (who i .due) (some (who i))
 
-best-more : {who : ℕ → Job} {i p d x : ℕ} {c o : Option Job} → i < 32 → Best who p d c → Offer (who i) x o
+best-more : {who : ℕ → Job} {i p d x : ℕ} {c o : Option Job} → i < places → Best who p d c → Offer (who i) x o
     → Best who (cond (ltb x d) i p) (cond (ltb x d) x d) (sooner c o)
 best-more h nobody nothing = nobody
 best-more {who} {i} h nobody (one l) = rw (lt-ltb (who i .due) noRelease l) (somebody h l)
@@ -134,19 +136,19 @@ best-more {who} {i} h (somebody {i = k} q m) (one l) = go (ltb (who i .due) (who
 
 -- whose a place is
 abbrev pub heldBy : (ℕ → Job) → ℕ → Option Job
-heldBy who p = cond (ltb p 32) (some (who p)) none
+heldBy who p = cond (ltb p places) (some (who p)) none
 
 best-held : {who : ℕ → Job} {p d : ℕ} {c : Option Job} → Best who p d c → heldBy who p ≡ sooner c none
 best-held nobody = refl
-best-held {who} (somebody {i = i} q m) = ap (λ b. cond b (some (who i)) none) (lt-ltb i 32 q)
+best-held {who} (somebody {i = i} q m) = ap (λ b. cond b (some (who i)) none) (lt-ltb i places q)
 
 -- the first unfinished job of each row
-abbrev pub headIn : (streams lengths : List ℕ) (needs : List (List ℕ)) → ℕ → Job
+abbrev pub headIn : List Name → (lengths : List ℕ) (needs : List (List ℕ)) → ℕ → Job
 headIn ss Ts nss i = jobIn ss Ts nss i (firstLeft (getD nss i []))
 
 -- By the rows: the choice so far against the row's, and on with the others.
-places-choose : (who : ℕ → Job) (t i : ℕ) (ss Ts : List ℕ) (nss : List (List ℕ)) {p d : ℕ} {c : Option Job} → Best who p d c
-    → length ss ≡ length Ts → length nss ≡ length Ts → i + length Ts ≤ 32 → Wide nss → Short Ts → t < noRelease
+places-choose : (who : ℕ → Job) (t i : ℕ) (ss : List Name) (Ts : List ℕ) (nss : List (List ℕ)) {p d : ℕ} {c : Option Job} → Best who p d c
+    → length ss ≡ length Ts → length nss ≡ length Ts → i + length Ts ≤ places → Wide nss → Short Ts → t < noRelease
     → ((k : ℕ) → who (i + k) ≡ headIn ss Ts nss k)
     → heldBy who (placeFrom t i p d Ts (releasesOf Ts (map firstLeft nss))) ≡ sooner c (choose t (rowJobs ss Ts nss))
 unfolding placeFrom releasesOf rowJobs choose
@@ -165,8 +167,8 @@ places-choose who t i (s ∷ ss) (T ∷ Ts) (ns ∷ nss) {c = c} b u v r w l f h
     ∙ ap (sooner c) (sym (choose-append t (rowFrom s T 0 ns) (rowJobs ss Ts nss)))
 
 -- the law: the place chosen holds the chosen job
-pub place-chosen : (t : ℕ) (ss Ts : List ℕ) (nss : List (List ℕ)) → length ss ≡ 32 → length Ts ≡ 32 → length nss ≡ 32 → Wide nss
-    → Short Ts → t < noRelease
+pub place-chosen : (t : ℕ) (ss : List Name) (Ts : List ℕ) (nss : List (List ℕ)) → length ss ≡ places → length Ts ≡ places
+    → length nss ≡ places → Wide nss → Short Ts → t < noRelease
     → heldBy (headIn ss Ts nss) (chosenAt t Ts (releasesOf Ts (map firstLeft nss))) ≡ choose t (rowJobs ss Ts nss)
 place-chosen t ss Ts nss u v r w l f =
     places-choose (headIn ss Ts nss) t 0 ss Ts nss nobody (omega arith) (omega arith) (omega arith) w l f

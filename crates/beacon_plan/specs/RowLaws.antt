@@ -1,4 +1,4 @@
--- Laws of rows: a fact of all jobs by their lengths; a change of one need changes one job; 32 rows of 16 jobs have at most 992 records;
+-- Laws of rows: a fact of all jobs by their lengths; a change of one need changes one job; rows of 16 jobs have few records;
 -- and rows have the plan of any jobs that they are but for some that need nothing. Assumes nothing.
 use mathlib.Core.Path.{_≡_, refl, sym, ap, subst, _∙_}
 use mathlib.Core.List.{List, [], _∷_, _++_}
@@ -15,7 +15,10 @@ use Rattle.base_lists.specs.All.{head, tail, all-at, all-append}
 use Rattle.base_lists.specs.Sums.{sum-append, sum-keep-le}
 use Rattle.spec_rules.specs.Slots.{Job, jobAt, jobsFrom, slotsFrom, runsFrom}
 use Rattle.law_slots.specs.Count.{toCome, ahead, few-runs}
-use Rattle.beacon_plan.specs.Rows.{rowFrom, rowJobs, rowPlan, Rows, unfinished}
+use Rattle.spec_model.specs.Names.{nobody}
+use Rattle.spec_model.specs.Tables.{places}
+use Rattle.spec_model.specs.declared.Name.{Name}
+use Rattle.beacon_plan.specs.Rows.{fewRuns, rowFrom, rowJobs, rowPlan, Rows, unfinished}
 use Rattle.beacon_plan.specs.Skipped.{Skipped, over, skip, same, skipped-done, skipped-slots, Changed, here, there, changed-append}
 use Rattle.beacon_plan.specs.Skipped.{changed-after}
 
@@ -24,12 +27,12 @@ abbrev pub Wide : List (List ℕ) → Type 0
 Wide nss = All (λ (ns : List ℕ). length ns ≡ 16) nss
 
 -- a fact of every job, whatever it needs, by the lengths
-pub row-all : {P : Job → Type 0} (s T j : ℕ) (ns : List ℕ) → ((n i : ℕ) → j ≤ i → P (jobAt s T n i)) → All P (rowFrom s T j ns)
+pub row-all : {P : Job → Type 0} (s : Name) (T j : ℕ) (ns : List ℕ) → ((n i : ℕ) → j ≤ i → P (jobAt s T n i)) → All P (rowFrom s T j ns)
 unfolding rowFrom
 row-all s T j [] h = stop
 row-all s T j (n ∷ ns) h = and (h n j (le-refl j)) (row-all s T (suc j) ns (λ m i l. h m i (omega arith)))
 
-pub rows-all : {P : Job → Type 0} (ss Ts : List ℕ) (nss : List (List ℕ)) → All (λ T. (s n j : ℕ) → P (jobAt s T n j)) Ts
+pub rows-all : {P : Job → Type 0} (ss : List Name) (Ts : List ℕ) (nss : List (List ℕ)) → All (λ T. (s : Name) (n j : ℕ) → P (jobAt s T n j)) Ts
     → All P (rowJobs ss Ts nss)
 unfolding rowJobs
 rows-all [] Ts nss h = stop
@@ -62,10 +65,10 @@ wide-with nss i j v h w =
     all-set i (set (getD nss i []) j v) (length-set (getD nss i []) j v ∙ all-at (λ (ns : List ℕ). length ns ≡ 16) nss [] w i h) w
 
 -- job j of row i
-abbrev pub jobIn : (streams lengths : List ℕ) (needs : List (List ℕ)) → ℕ → ℕ → Job
-jobIn ss Ts nss i j = jobAt (getD ss i 0) (getD Ts i 0) (needAt nss i j) j
+abbrev pub jobIn : List Name → (lengths : List ℕ) (needs : List (List ℕ)) → ℕ → ℕ → Job
+jobIn ss Ts nss i j = jobAt (getD ss i nobody) (getD Ts i 0) (needAt nss i j) j
 
-row-changed : (s T k : ℕ) (ns : List ℕ) (j m v : ℕ) → j < length ns → m ≡ k + j
+row-changed : (s : Name) (T k : ℕ) (ns : List ℕ) (j m v : ℕ) → j < length ns → m ≡ k + j
     → Changed (jobAt s T (getD ns j 0) m) (jobAt s T v m) (rowFrom s T k ns) (rowFrom s T k (set ns j v))
 unfolding rowFrom
 row-changed s T k [] j m v h e = absurd (omega arith)
@@ -75,9 +78,9 @@ row-changed s T k (n ∷ ns) zero m v h e =
     (sym q) here
 row-changed s T k (n ∷ ns) (suc j) m v h e = there (row-changed s T (suc k) ns j m v (omega arith) (omega arith))
 
-pub rows-changed : (ss Ts : List ℕ) (nss : List (List ℕ)) (i j v : ℕ) → i < length ss → i < length Ts → i < length nss
+pub rows-changed : (ss : List Name) (Ts : List ℕ) (nss : List (List ℕ)) (i j v : ℕ) → i < length ss → i < length Ts → i < length nss
     → j < length (getD nss i [])
-    → Changed (jobIn ss Ts nss i j) (jobAt (getD ss i 0) (getD Ts i 0) v j) (rowJobs ss Ts nss) (rowJobs ss Ts (withNeed nss i j v))
+    → Changed (jobIn ss Ts nss i j) (jobAt (getD ss i nobody) (getD Ts i 0) v j) (rowJobs ss Ts nss) (rowJobs ss Ts (withNeed nss i j v))
 unfolding rowJobs
 rows-changed [] Ts nss i j v a b c h = absurd (omega arith)
 rows-changed (s ∷ ss) [] nss i j v a b c h = absurd (omega arith)
@@ -89,19 +92,19 @@ rows-changed (s ∷ ss) (T ∷ Ts) (ns ∷ nss) (suc i) j v a b c h =
 
 -- ---- few records
 -- a job has its end and its release to come
-row-come : (s T j : ℕ) (ns : List ℕ) → sumOf (toCome 0) (rowFrom s T j ns) ≤ length ns * 2
+row-come : (s : Name) (T j : ℕ) (ns : List ℕ) → sumOf (toCome 0) (rowFrom s T j ns) ≤ length ns * 2
 unfolding rowFrom
 row-come s T j [] = zero-le
 row-come s T j (n ∷ ns) = omega (arith, one-if-most (ltb 0 n), one-if-most (ltb 0 (j * T)), row-come s T (suc j) ns)
 
 -- the first is released at 0
-first-come : (s T : ℕ) (ns : List ℕ) → length ns ≡ 16 → sumOf (toCome 0) (rowFrom s T 0 ns) ≤ 31
+first-come : (s : Name) (T : ℕ) (ns : List ℕ) → length ns ≡ 16 → sumOf (toCome 0) (rowFrom s T 0 ns) ≤ 31
 unfolding rowFrom
 first-come s T [] h = zero-le
 first-come s T (n ∷ ns) h =
     omega (arith, one-if-most (ltb 0 n), one-if-false (le-ltb 0 (0 * T) (omega arith)), row-come s T 1 ns)
 
-pub rows-come : (ss Ts : List ℕ) (nss : List (List ℕ)) → Wide nss → ahead 0 (rowJobs ss Ts nss) ≤ 31 * length nss
+pub rows-come : (ss : List Name) (Ts : List ℕ) (nss : List (List ℕ)) → Wide nss → ahead 0 (rowJobs ss Ts nss) ≤ 31 * length nss
 unfolding rowJobs
 rows-come [] Ts nss w = zero-le
 rows-come (s ∷ ss) [] nss w = zero-le
@@ -114,8 +117,8 @@ rows-come (s ∷ ss) (T ∷ Ts) (ns ∷ nss) w =
       rows-come ss Ts nss (tail w),
     )
 
-pub plan-few : {b : ℕ} {ss Ts : List ℕ} {nss : List (List ℕ)} → Rows b ss Ts nss → length nss ≡ 32 → Wide nss
-    → length (rowPlan b ss Ts nss) ≤ 992
+pub plan-few : {b : ℕ} {ss : List Name} {Ts : List ℕ} {nss : List (List ℕ)} → Rows b ss Ts nss → length nss ≡ places → Wide nss
+    → length (rowPlan b ss Ts nss) ≤ fewRuns
 unfolding rowPlan
 plan-few {b} {ss} {Ts} {nss} r l w =
     let js : List Job = rowJobs ss Ts nss in
@@ -148,13 +151,13 @@ spare-set (suc r) (ms ∷ nss) (suc i) j ns h q = spare-set r nss i j ns h q
 
 -- ---- other jobs
 -- a row of n equal needs, and m zeros after them, is n jobs; a row of zeros is none
-pub row-skipped : (n m s T need j : ℕ) → Skipped (rowFrom s T j (replicate n need ++ replicate m 0)) (jobsFrom n s T need j)
+pub row-skipped : (n m : ℕ) (s : Name) (T need j : ℕ) → Skipped (rowFrom s T j (replicate n need ++ replicate m 0)) (jobsFrom n s T need j)
 unfolding rowFrom jobsFrom
 row-skipped zero zero s T need j = over
 row-skipped zero (suc m) s T need j = skip refl (row-skipped zero m s T need (suc j))
 row-skipped (suc n) m s T need j = same (row-skipped n m s T need (suc j))
 
-pub plan-skipped : (b : ℕ) (ss Ts : List ℕ) (nss : List (List ℕ)) {js : List Job} → Skipped (rowJobs ss Ts nss) js
+pub plan-skipped : (b : ℕ) (ss : List Name) (Ts : List ℕ) (nss : List (List ℕ)) {js : List Job} → Skipped (rowJobs ss Ts nss) js
     → rowPlan b ss Ts nss ≡ runsFrom 0 (slotsFrom b 0 js)
 unfolding rowPlan
 plan-skipped b ss Ts nss w = ap (runsFrom 0) (skipped-slots b 0 w)

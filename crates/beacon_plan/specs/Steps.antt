@@ -12,12 +12,18 @@ use borrow.Author.Tests.{lt-ltb, le-ltb}
 use Rattle.spec_lists.specs.Lists.{keep}
 use Rattle.spec_lists.specs.All.{All}
 use Rattle.base_lists.specs.All.{all-at}
+use Rattle.spec_model.specs.Names.{nobody}
+use Rattle.spec_model.specs.Tables.{places}
+use Rattle.spec_model.specs.declared.Name.{Name}
 use Rattle.spec_rules.specs.Slots.{Job, choose, slotsFrom, Run, runsFrom}
-use Rattle.spec_rules.specs.Calls.{wordsOf}
+use Rattle.spec_rules.specs.Records.{recordWords, planWords, wordsOf}
 use Rattle.law_slots.specs.Choice.{Keys, Choice, takes, chooses, ready-both}
 use Rattle.law_slots.specs.Events.{lessBy, spent, Quiet, joined, idle-on, runs-joined, runs-idle}
+use Rattle.law_model.specs.Frames.{mostSlots}
+use Rattle.law_model.specs.Records.{length-words}
+use Rattle.plan_record.specs.Recorded.{recorded, recorded-after}
 use Rattle.beacon_plan.specs.declared.Pen.{Pen}
-use Rattle.beacon_plan.specs.Rows.{unfinished, rowJobs, rowPlan, Length, Rows}
+use Rattle.beacon_plan.specs.Rows.{fewRuns, unfinished, rowJobs, rowPlan, Length, Rows}
 use Rattle.beacon_plan.specs.Skipped.{Skipped, Changed, skipped-done, keys-spent, changed-spent, run-changed}
 use Rattle.beacon_plan.specs.RowLaws.{Wide, needAt, withNeed, jobIn, in-row, rows-changed, wide-with}
 use Rattle.beacon_plan.specs.Heads.{head-at}
@@ -25,40 +31,40 @@ use Rattle.beacon_plan.specs.Places.{Short, short, releasesOf, chosenAt,
 use Rattle.beacon_plan.specs.Kept.{Kept}
 use Rattle.beacon_plan.specs.Next.{nextOf, next-ahead, next-quiet}
 use Rattle.beacon_plan.specs.Turns.{turns, next-turn, job-turn}
-use Rattle.beacon_plan.specs.Pens.{named, blank, openRun, pending, recorded, closed, extended, length-words, recorded-after, pending-end}
-use Rattle.beacon_plan.specs.Pens.{pending-blank, extended-pending, extended-count, extended-ends}
+use Rattle.beacon_plan.specs.Pens.{named, blank, openRun, pending, endOf, closed, extended, pending-end, pending-blank, extended-pending}
+use Rattle.beacon_plan.specs.Pens.{extended-count, extended-ends}
 
 -- the runs from t on
 abbrev toRun : (b t : ℕ) → List Job → List Run
 toRun b t js = runsFrom t (slotsFrom (b - t) t js)
 
 -- what the rows have, however their jobs run
-pub record Given (b : ℕ) (ss Ts : List ℕ) : Type 0 where
-  pub streams : length ss ≡ 32
-  pub lengths : length Ts ≡ 32
-  pub short : b ≤ 1024000
+pub record Given (b : ℕ) (ss : List Name) (Ts : List ℕ) : Type 0 where
+  pub streams : length ss ≡ places
+  pub lengths : length Ts ≡ places
+  pub short : b ≤ mostSlots
   pub each : All (Length b) Ts
 
-pub lengths-short : {b : ℕ} {ss Ts : List ℕ} → Given b ss Ts → Short Ts
+pub lengths-short : {b : ℕ} {ss : List Name} {Ts : List ℕ} → Given b ss Ts → Short Ts
 lengths-short g = short (g .short) (g .each)
 
 -- What stands at t: the jobs left, of those that need something; the records done, which are the first words; and the runs to come,
 -- of which the pen has begun the first. Together they are the plan.
-pub record State (b t : ℕ) (ss Ts : List ℕ) (total : List Run) (old ws : List ℕ) (nss : List (List ℕ)) (p : Pen) : Type 0 where
+pub record State (b t : ℕ) (ss : List Name) (Ts : List ℕ) (total : List Run) (old ws : List ℕ) (nss : List (List ℕ)) (p : Pen) : Type 0 where
   pub given : Given b ss Ts
   pub time : t ≤ b
-  pub rows : length nss ≡ 32
+  pub rows : length nss ≡ places
   pub wide : Wide nss
   pub left : List Job
   pub skipped : Skipped (rowJobs ss Ts nss) left
   pub names : Keys left
   pub done : List Run
   pub count : length done ≡ p .count
-  pub words : ws ≡ wordsOf done ++ drop (4 * p .count) old
+  pub words : ws ≡ wordsOf done ++ drop (recordWords * p .count) old
   pub plan : done ++ pending p (toRun b t (rowJobs ss Ts nss)) ≡ total
-  pub ended : p .start + p .length ≤ t
+  pub ended : endOf (p .run) ≤ t
 
-pub begin : {b : ℕ} {ss Ts : List ℕ} {nss : List (List ℕ)} (old : List ℕ) → Rows b ss Ts nss → Given b ss Ts → length nss ≡ 32
+pub begin : {b : ℕ} {ss : List Name} {Ts : List ℕ} {nss : List (List ℕ)} (old : List ℕ) → Rows b ss Ts nss → Given b ss Ts → length nss ≡ places
     → Wide nss → {p : Pen} → p ≡ blank → State b 0 ss Ts (rowPlan b ss Ts nss) old old nss p
 unfolding rowPlan wordsOf
 begin {b} {ss} {Ts} {nss} old r g l w e =
@@ -84,21 +90,22 @@ chosen-needs t js {k} e = go (subst (Choice t js) e (chooses t js))
     go : Choice t js (some k) → 1 ≤ k .need
     go (takes pick r a) = ready-both t k r .1
 
-module _ {b t : ℕ} {ss Ts : List ℕ} {total : List Run} {old ws : List ℕ} {nss : List (List ℕ)} {p : Pen}
+module _ {b t : ℕ} {ss : List Name} {Ts : List ℕ} {total : List Run} {old ws : List ℕ} {nss : List (List ℕ)} {p : Pen}
     (s : State b t ss Ts total old ws nss p) where
   -- room for a record more
-  pub room : length total ≤ 992 → 4096 ≤ length old → (length ws ≡ length old) × (4 * p .count + 4 ≤ length ws)
+  pub room : length total ≤ fewRuns → planWords ≤ length old
+      → (length ws ≡ length old) × (recordWords * (p .count + 1) ≤ length ws)
   room f l =
-      let few : p .count ≤ 992 =
+      let few : p .count ≤ fewRuns =
       omega (arith, s .count, ap length (s .plan), length-append (s .done) (pending p (toRun b t (rowJobs ss Ts nss)))) in
       let same : length ws ≡ length old =
-      ap length (s .words) ∙ length-append (wordsOf (s .done)) (drop (4 * p .count) old)
-      ∙ omega (arith, s .count, length-words (s .done), length-drop (4 * p .count) old) in
+      ap length (s .words) ∙ length-append (wordsOf (s .done)) (drop (recordWords * p .count) old)
+      ∙ omega (arith, s .count, length-words (s .done), length-drop (recordWords * p .count) old) in
       (same, omega arith)
 
   pub finish : b ≤ t
       → (p .count + length (openRun p) ≡ length total)
-      × (recorded (p .count) (openRun p) ws ≡ wordsOf total ++ drop (4 * (p .count + length (openRun p))) old)
+      × (recorded (p .count) (openRun p) ws ≡ wordsOf total ++ drop (recordWords * (p .count + length (openRun p))) old)
   unfolding slotsFrom runsFrom
   finish h =
       let z : b - t ≡ 0 = omega arith in
@@ -117,13 +124,13 @@ module _ {b t : ℕ} {ss Ts : List ℕ} {total : List Run} {old ws : List ℕ} {
         ap (heldBy (headIn ss Ts nss)) (f ∙ ap (chosenAt t Ts) (k .releases ∙ ap (releasesOf Ts) (k .heads)))
         ∙ place-chosen t ss Ts nss (g .streams) (g .lengths) (s .rows) (s .wide) (lengths-short g) (omega (arith, g .short))
 
-    pub none-chosen : 32 ≤ i → choose t (rowJobs ss Ts nss) ≡ none
-    none-chosen l = sym held ∙ ap (λ x. cond x (some (headIn ss Ts nss i)) none) (le-ltb i 32 l)
+    pub none-chosen : places ≤ i → choose t (rowJobs ss Ts nss) ≡ none
+    none-chosen l = sym held ∙ ap (λ x. cond x (some (headIn ss Ts nss i)) none) (le-ltb i places l)
 
-    pub job-chosen : i < 32 → (choose t (rowJobs ss Ts nss) ≡ some (jobIn ss Ts nss i (getD hs i 0))) × (getD hs i 0 < 16)
+    pub job-chosen : i < places → (choose t (rowJobs ss Ts nss) ≡ some (jobIn ss Ts nss i (getD hs i 0))) × (getD hs i 0 < 16)
     job-chosen l =
         let c : choose t (rowJobs ss Ts nss) ≡ some (jobIn ss Ts nss i (getD hs i 0)) =
-        sym held ∙ ap (λ x. cond x (some (headIn ss Ts nss i)) none) (lt-ltb i 32 l)
+        sym held ∙ ap (λ x. cond x (some (headIn ss Ts nss i)) none) (lt-ltb i places l)
         ∙ ap (λ j. some (jobIn ss Ts nss i j)) (sym (ap (λ xs. getD xs i 0) (k .heads) ∙ head-at nss i)) in
         let r : i < length nss = omega (arith, s .rows) in (
           c,
@@ -175,7 +182,7 @@ module _ {b t : ℕ} {ss Ts : List ℕ} {total : List Run} {old ws : List ℕ} {
 
     -- n slots of job j of row i, to the nearer of its end and the next release. The jobs are those of the rows with the need that is
     -- left; the run that ends, if any, is one record more; and the runs to come are the same.
-    module _ (i j n : ℕ) (f : n ≡ min (needAt nss i j) (nextOf b t Ts - t)) (w : i < 32) (y : j < 16)
+    module _ (i j n : ℕ) (f : n ≡ min (needAt nss i j) (nextOf b t Ts - t)) (w : i < places) (y : j < 16)
         (e : choose t (rowJobs ss Ts nss) ≡ some (jobIn ss Ts nss i j)) where
       -- one job of the rows needs n slots less
       left-changed : Changed (jobIn ss Ts nss i j) (lessBy n (jobIn ss Ts nss i j)) (rowJobs ss Ts nss)
@@ -191,10 +198,10 @@ module _ {b t : ℕ} {ss Ts : List ℕ} {total : List Run} {old ws : List ℕ} {
       job-less =
           job-turn b t n (nextOf b t Ts) left-changed (chosen-needs t (rowJobs ss Ts nss) e) h f (coming refl .0) (idle-less refl)
 
-      ran : let k = named (getD ss i 0) j in
+      ran : let k = named (getD ss i nobody) j in
           State b (t + n) ss Ts total old (recorded (p .count) (closed p k t) ws) (withNeed nss i j (needAt nss i j - n)) (extended p k t n)
       ran =
-          let k = named (getD ss i 0) j in
+          let k = named (getD ss i nobody) j in
           let js : List Job = rowJobs ss Ts nss in
           let x : Job = jobIn ss Ts nss i j in
           let ks : List Job = rowJobs ss Ts (withNeed nss i j (needAt nss i j - n)) in
@@ -220,7 +227,7 @@ module _ {b t : ℕ} {ss Ts : List ℕ} {total : List Run} {old ws : List ℕ} {
             count = length-append (s .done) (closed p k t) ∙ omega (arith, s .count, extended-count p k t n);
             words = ap (recorded (p .count) (closed p k t)) (s .words)
                 ∙ recorded-after old (s .done) (closed p k t) (p .count) (s .count)
-                ∙ ap (λ m. wordsOf (s .done ++ closed p k t) ++ drop (4 * m) old) (sym (extended-count p k t n));
+                ∙ ap (λ m. wordsOf (s .done ++ closed p k t) ++ drop (recordWords * m) old) (sym (extended-count p k t n));
             plan = append-assoc (s .done) (closed p k t) (pending (extended p k t n) (toRun b (t + n) ks))
                 ∙ ap (λ rs. s .done ++ rs) (extended-pending p k t n one (toRun b (t + n) ks) ∙ ap (pending p) (sym runs))
                 ∙ s .plan;
@@ -228,7 +235,7 @@ module _ {b t : ℕ} {ss Ts : List ℕ} {total : List Run} {old ws : List ℕ} {
           }
 
       -- where the words and the pen are such
-      pub job-step : {vs : List ℕ} {o : Pen} → let k = named (getD ss i 0) j in
+      pub job-step : {vs : List ℕ} {o : Pen} → let k = named (getD ss i nobody) j in
           vs ≡ recorded (p .count) (closed p k t) ws → o ≡ extended p k t n
           → State b (t + n) ss Ts total old vs (withNeed nss i j (needAt nss i j - n)) o
       job-step x y = subst₂ (λ vs o. State b (t + n) ss Ts total old vs (withNeed nss i j (needAt nss i j - n)) o) (sym x) (sym y) ran

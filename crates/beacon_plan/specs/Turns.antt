@@ -1,5 +1,5 @@
--- How many turns the plan takes: each ends a job, comes to a release, or comes to the end, so there are at most 993 of them, however many
--- slots an interval has. Assumes nothing.
+-- How many turns the plan takes: each ends a job, comes to a release, or comes to the end, so of 32 rows there are at most 993, however
+-- many slots an interval has. Assumes nothing.
 use mathlib.Core.Path.{_≡_, sym, ap, subst}
 use mathlib.Core.List.{List, [], _∷_, _++_}
 use mathlib.Core.Option.{some}
@@ -18,7 +18,9 @@ use Rattle.base_lists.specs.Sums.{sum-le, sum-append}
 use Rattle.spec_rules.specs.Slots.{Job, jobAt}
 use Rattle.law_slots.specs.Events.{lessBy}
 use Rattle.law_slots.specs.Count.{toCome, ahead}
-use Rattle.beacon_plan.specs.Rows.{rowFrom, rowJobs, Length}
+use Rattle.spec_model.specs.Tables.{places}
+use Rattle.spec_model.specs.declared.Name.{Name}
+use Rattle.beacon_plan.specs.Rows.{fewRuns, rowFrom, rowJobs, Length}
 use Rattle.beacon_plan.specs.Skipped.{Changed, here, there}
 use Rattle.beacon_plan.specs.RowLaws.{Wide, rows-come}
 use Rattle.beacon_plan.specs.Next.{after, after-more, nextOf, next-more, next-most}
@@ -40,7 +42,7 @@ later-ahead t u js h = sum-le (toCome u) (toCome t) (all-of js (later-come t u h
 
 -- ---- a release has come
 -- that of job m, which is one of the row's
-row-come : (t s T m j : ℕ) (ns : List ℕ) → t < m * T → j ≤ m → m < j + length ns
+row-come : (t : ℕ) (s : Name) (T m j : ℕ) (ns : List ℕ) → t < m * T → j ≤ m → m < j + length ns
     → ahead (m * T) (rowFrom s T j ns) < ahead t (rowFrom s T j ns)
 unfolding rowFrom
 row-come t s T m j [] h k l = absurd (omega arith)
@@ -62,7 +64,7 @@ row-come t s T m j (n ∷ ns) h k l =
     ]
 
 -- By the rows: the next release is one of this row's jobs, or that of the rows after it.
-pub next-turn : (b t : ℕ) (ss Ts : List ℕ) (nss : List (List ℕ)) → length ss ≡ length Ts → length nss ≡ length Ts → t < b
+pub next-turn : (b t : ℕ) (ss : List Name) (Ts : List ℕ) (nss : List (List ℕ)) → length ss ≡ length Ts → length nss ≡ length Ts → t < b
     → All (Length b) Ts → Wide nss → turns b (nextOf b t Ts) (rowJobs ss Ts nss) < turns b t (rowJobs ss Ts nss)
 unfolding turns rowJobs nextOf
 next-turn b t [] [] nss u v h q w = omega (arith, one-if-false (le-ltb b b (le-refl b)), one-if-true (lt-ltb t b h))
@@ -117,6 +119,7 @@ job-turn b t n m {x} {js} {ks} w h k e l q =
     ]
 
 -- ---- few at the start
-pub turns-few : (b : ℕ) (ss Ts : List ℕ) (nss : List (List ℕ)) → length nss ≡ 32 → Wide nss → turns b 0 (rowJobs ss Ts nss) ≤ 993
+pub turns-few : (b : ℕ) (ss : List Name) (Ts : List ℕ) (nss : List (List ℕ)) → length nss ≡ places → Wide nss
+    → turns b 0 (rowJobs ss Ts nss) ≤ fewRuns + 1
 unfolding turns
 turns-few b ss Ts nss l w = omega (arith, rows-come ss Ts nss w, one-if-most (ltb 0 b))

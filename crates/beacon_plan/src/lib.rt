@@ -3,18 +3,25 @@
 // released at j times its length. Of a row only the first unfinished job matters: heads has its number and releases its release, and they
 // change where it ends. A turn ends a job, or comes to a release or to the end: there are at most 993 of them (specs/Turns.antt).
 ghost use mathlib.Core.Path.{_≡_};
-ghost use mathlib.Core.List.{[], _∷_, _++_, map};
+ghost use mathlib.Core.List.{[], _++_, map};
 ghost use Prim.Native.Nat.{_+_, _*_, _≤_, _<_};
 ghost use lib.ListN.{length, drop, getD, set, replicate};
 ghost use Rattle.spec_lists.specs.All.{All};
-ghost use Rattle.spec_rules.specs.Slots.{run};
-ghost use Rattle.spec_rules.specs.Calls.{wordsOf};
+ghost use Rattle.spec_model.specs.Frames.{slotsIn};
+ghost use Rattle.spec_model.specs.Tables.{places};
+ghost use Rattle.spec_rules.specs.Records.{recordWords, mostRecords, planWords, wordsOf};
+ghost use Rattle.law_model.specs.Frames.{mostSlots};
+ghost use Rattle.plan_record.specs.Recorded.{recorded};
 ghost use Rattle.beacon_plan.specs.Rows.{Length, Rows, Padded, Spare, rowPlan};
 ghost use Rattle.beacon_plan.specs.Needs.{Counted, needsRow, needRows};
 ghost use Rattle.beacon_plan.specs.Heads.{firstLeft};
 ghost use Rattle.beacon_plan.specs.Next.{nextOf};
 ghost use Rattle.beacon_plan.specs.Places.{Short, noRelease, releaseOf, releasesOf, chosenAt};
-ghost use Rattle.beacon_plan.specs.Pens.{blank, named, openRun, recorded, grows, closed, extended};
+ghost use Rattle.beacon_plan.specs.Pens.{blank, named, openRun, grows, closed, extended};
+use plan_record::Record;
+use spec_model::Frame;
+use spec_model::Name;
+use spec_model::Slots;
 
 // Later than any job of an interval is due.
 const NO_RELEASE: u32 = 4294967295;
@@ -22,59 +29,57 @@ const NO_RELEASE: u32 = 4294967295;
 // How many records are written, and the run that may still grow: none where its length is 0.
 struct Pen {
     count: usize,
-    stream: u32,
-    job: u32,
-    start: u32,
-    length: u32,
+    run: Record,
 }
 
 // The first release after t of any row's jobs; at most b, the end. Rows as long as the interval release none before it.
-fn next_release(b: u32, rows: usize, lengths: &[u32; 32], t: u32) -> u32
-    requires { ⌜ (t < b) × ((b ≤ 1024000) × All (Length b) (now lengths)) ⌝ }
-    requires { ⌜ Padded rows b (now lengths) ⌝ }
-    ensures { λ r. ⌜ r ≡ nextOf b t (now (lengths .entry)) ⌝ }
+fn next_release(b: Slots, rows: usize, lengths: &[u32; 32], t: Slots) -> Slots
+    requires { ⌜ (t .0 < b .0) × ((b .0 ≤ mostSlots) × All (Length (b .0)) (now lengths)) ⌝ }
+    requires { ⌜ Padded rows (b .0) (now lengths) ⌝ }
+    ensures { λ r. ⌜ r .0 ≡ nextOf (b .0) (t .0) (now (lengths .entry)) ⌝ }
 {
     let mut next = b;
     for i in 0..rows {
         let length = lengths[i];
-        let release = (t / length + 1) * length;
-        next = base_numbers::smaller(next, release);
+        let release = (t.0 / length + 1) * length;
+        next = Slots(base_numbers::smaller(next.0, release));
     }
     next
 }
 
 // The same; the one found last still is the next while it is ahead, so that it is looked for only where one has come.
-fn next_after(b: u32, rows: usize, lengths: &[u32; 32], t: u32, next: u32) -> u32
-    requires { ⌜ (t < b) × ((b ≤ 1024000) × (All (Length b) (now lengths) × (t < next → next ≡ nextOf b t (now lengths)))) ⌝ }
-    requires { ⌜ Padded rows b (now lengths) ⌝ }
-    ensures { λ r. ⌜ r ≡ nextOf b t (now (lengths .entry)) ⌝ }
+fn next_after(b: Slots, rows: usize, lengths: &[u32; 32], t: Slots, next: Slots) -> Slots
+    requires { ⌜ (t .0 < b .0) × ((b .0 ≤ mostSlots) × All (Length (b .0)) (now lengths)) ⌝ }
+    requires { ⌜ (t .0 < next .0 → next .0 ≡ nextOf (b .0) (t .0) (now lengths)) ⌝ }
+    requires { ⌜ Padded rows (b .0) (now lengths) ⌝ }
+    ensures { λ r. ⌜ r .0 ≡ nextOf (b .0) (t .0) (now (lengths .entry)) ⌝ }
 {
-    if t < next {
+    if t.0 < next.0 {
         return next;
     }
     next_release(b, rows, lengths, t)
 }
 
 // So many jobs of one need in row k, where nothing was needed; nothing behind them.
-fn fill_row(needs: &mut [[u32; 16]; 32], k: usize, count: u32, need: u32)
-    requires { ⌜ (k < 32) × ((length (now needs) ≡ 32) × (count ≤ 16)) ⌝ }
+fn fill_row(needs: &mut [[u32; 16]; 32], k: usize, count: u32, need: Slots)
+    requires { ⌜ (k < places) × ((length (now needs) ≡ places) × (count ≤ 16)) ⌝ }
     requires { ⌜ getD (now needs) k [] ≡ replicate 16 0 ⌝ }
-    ensures { λ _. ⌜ now (needs .exit) ≡ set (now (needs .entry)) k (needsRow count need) ⌝ }
+    ensures { λ _. ⌜ now (needs .exit) ≡ set (now (needs .entry)) k (needsRow count (need .0)) ⌝ }
 {
     let n = count as usize;
     for j in 0..n {
-        needs[k][j] = need;
+        needs[k][j] = need.0;
     }
 }
 
 // The same in each row; those behind the first rows need nothing.
 fn fill_rows(needs: &mut [[u32; 16]; 32], rows: usize, counts: &[u32; 32], each: &[u32; 32])
-    requires { ⌜ (now needs ≡ replicate 32 (replicate 16 0)) × Counted (now counts) (now each) ⌝ }
+    requires { ⌜ (now needs ≡ replicate places (replicate 16 0)) × Counted (now counts) (now each) ⌝ }
     requires { ⌜ Padded rows (replicate 16 0) (needRows (now counts) (now each)) ⌝ }
     ensures { λ _. ⌜ now (needs .exit) ≡ needRows (now (counts .entry)) (now (each .entry)) ⌝ }
 {
     for i in 0..rows {
-        fill_row(needs, i, counts[i], each[i]);
+        fill_row(needs, i, counts[i], Slots(each[i]));
     }
 }
 
@@ -92,7 +97,7 @@ fn first_left(row: [u32; 16]) -> usize
 
 // The same of each row; those behind the first rows need nothing.
 fn fill_heads(heads: &mut [usize; 32], rows: usize, needs: &[[u32; 16]; 32])
-    requires { ⌜ (now heads ≡ replicate 32 16) × Padded rows (replicate 16 0) (now needs) ⌝ }
+    requires { ⌜ (now heads ≡ replicate places 16) × Padded rows (replicate 16 0) (now needs) ⌝ }
     ensures { λ _. ⌜ now (heads .exit) ≡ map firstLeft (now (needs .entry)) ⌝ }
 {
     for i in 0..rows {
@@ -102,38 +107,39 @@ fn fill_heads(heads: &mut [usize; 32], rows: usize, needs: &[[u32; 16]; 32])
 }
 
 // When a row's first unfinished job is released, where each is so many slots long; NO_RELEASE where it has none.
-fn release_of(slots: u32, job: usize) -> u32
-    requires { ⌜ slots ≤ 1024000 ⌝ }
-    ensures { λ r. ⌜ r ≡ releaseOf slots job ⌝ }
+fn release_of(length: Slots, job: usize) -> Slots
+    requires { ⌜ length .0 ≤ mostSlots ⌝ }
+    ensures { λ r. ⌜ r .0 ≡ releaseOf (length .0) job ⌝ }
 {
     if 16 <= job {
-        return NO_RELEASE;
+        return Slots(NO_RELEASE);
     }
-    (job as u32) * slots
+    Slots((job as u32) * length.0)
 }
 
 // The same of each row; those behind the first rows have none.
 fn fill_releases(releases: &mut [u32; 32], rows: usize, lengths: &[u32; 32], heads: &[usize; 32])
-    requires { ⌜ (now releases ≡ replicate 32 noRelease) × ((length (now lengths) ≡ 32) × Short (now lengths)) ⌝ }
+    requires { ⌜ (now releases ≡ replicate places noRelease) × ((length (now lengths) ≡ places) × Short (now lengths)) ⌝ }
     requires { ⌜ Padded rows 16 (now heads) ⌝ }
     ensures { λ _. ⌜ now (releases .exit) ≡ releasesOf (now (lengths .entry)) (now (heads .entry)) ⌝ }
 {
     for i in 0..rows {
-        releases[i] = release_of(lengths[i], heads[i]);
+        let release = release_of(Slots(lengths[i]), heads[i]);
+        releases[i] = release.0;
     }
 }
 
-// The place of the job that slot t goes to: of those due first the first; 32 where the slot is idle.
-fn choose_place(t: u32, rows: usize, lengths: &[u32; 32], releases: &[u32; 32]) -> usize
-    requires { ⌜ (t ≤ 1024000) × ((length (now lengths) ≡ 32) × Short (now lengths)) ⌝ }
+// The place of the job that slot t goes to: of those due first the first; no place where the slot is idle.
+fn choose_place(t: Slots, rows: usize, lengths: &[u32; 32], releases: &[u32; 32]) -> usize
+    requires { ⌜ (t .0 ≤ mostSlots) × ((length (now lengths) ≡ places) × Short (now lengths)) ⌝ }
     requires { ⌜ Padded rows noRelease (now releases) ⌝ }
-    ensures { λ r. ⌜ r ≡ chosenAt t (now (lengths .entry)) (now (releases .entry)) ⌝ }
+    ensures { λ r. ⌜ r ≡ chosenAt (t .0) (now (lengths .entry)) (now (releases .entry)) ⌝ }
 {
-    let mut place: usize = 32;
+    let mut place = spec_model::NO_PLACE;
     let mut best = NO_RELEASE;
     for i in 0..rows {
         let release = releases[i];
-        if release <= t {
+        if release <= t.0 {
             let due = release + lengths[i];
             if due < best {
                 place = i;
@@ -144,122 +150,120 @@ fn choose_place(t: u32, rows: usize, lengths: &[u32; 32], releases: &[u32; 32]) 
     place
 }
 
-// A record of four words.
-fn write_record(plan: &mut [u32], n: usize, stream: u32, job: u32, start: u32, slots: u32)
-    requires { ⌜ 4 * n + 4 ≤ length (now plan) ⌝ }
-    ensures { λ _. ⌜ now (plan .exit) ≡ recorded n (run (named stream job) start slots ∷ []) (now (plan .entry)) ⌝ }
-{
-    let at = 4 * n;
-    plan[at] = stream;
-    plan[at + 1] = job;
-    plan[at + 2] = start;
-    plan[at + 3] = slots;
-}
-
 // The run that may still grow is written; how many records there are then.
 fn put_run(pen: Pen, plan: &mut [u32]) -> usize
-    requires { ⌜ 4 * pen .count + 4 ≤ length (now plan) ⌝ }
+    requires { ⌜ recordWords * (pen .count + 1) ≤ length (now plan) ⌝ }
     ensures { λ r. ⌜ (r ≡ pen .count + length (openRun pen))
         × (now (plan .exit) ≡ recorded (pen .count) (openRun pen) (now (plan .entry))) ⌝ }
 {
     let count = pen.count;
-    if pen.length == 0 {
+    let run = pen.run;
+    if run.length.0 == 0 {
         return count;
     }
-    write_record(plan, count, pen.stream, pen.job, pen.start, pen.length);
+    plan_record::write_record(plan, count, run);
     count + 1
 }
 
 // The run goes on in slot t, where that is the job's.
-fn run_grows(pen: Pen, stream: u32, job: u32, t: u32) -> bool
-    requires { ⌜ pen .start + pen .length ≤ t ⌝ }
-    ensures { λ r. ⌜ r ≡ grows pen (named stream job) t ⌝ }
+fn run_grows(run: Record, name: Name, job: u32, t: Slots) -> bool
+    requires { ⌜ run .start .0 + run .length .0 ≤ t .0 ⌝ }
+    ensures { λ r. ⌜ r ≡ grows run (named name job) (t .0) ⌝ }
 {
-    if stream != pen.stream {
+    if !spec_model::same(name, run.name) {
         return false;
     }
-    if job != pen.job {
+    if job != run.job {
         return false;
     }
-    t == pen.start + pen.length
+    t.0 == run.start.0 + run.length.0
 }
 
 // n slots from t on go to a job: the run grows, or it is written and another begins.
-fn extend_run(pen: Pen, plan: &mut [u32], stream: u32, job: u32, t: u32, n: u32) -> Pen
-    requires { ⌜ (4 * pen .count + 4 ≤ length (now plan)) × ((pen .start + pen .length ≤ t) × (t + n ≤ 1024000)) ⌝ }
-    ensures { λ r. ⌜ (r ≡ extended pen (named stream job) t n)
-        × (now (plan .exit) ≡ recorded (pen .count) (closed pen (named stream job) t) (now (plan .entry))) ⌝ }
+fn extend_run(pen: Pen, plan: &mut [u32], name: Name, job: u32, t: Slots, n: Slots) -> Pen
+    requires { ⌜ (recordWords * (pen .count + 1) ≤ length (now plan)) × (pen .run .start .0 + pen .run .length .0 ≤ t .0) ⌝ }
+    requires { ⌜ t .0 + n .0 ≤ mostSlots ⌝ }
+    ensures { λ r. ⌜ (r ≡ extended pen (named name job) (t .0) (n .0))
+        × (now (plan .exit) ≡ recorded (pen .count) (closed pen (named name job) (t .0)) (now (plan .entry))) ⌝ }
 {
-    if run_grows(pen, stream, job, t) {
-        let mut grown = pen;
-        grown.length = pen.length + n;
-        return grown;
+    let mut run = pen.run;
+    if run_grows(run, name, job, t) {
+        let count = pen.count;
+        let longer = run.length.0 + n.0;
+        run.length.0 = longer;
+        return Pen { count, run };
     }
     let count = put_run(pen, plan);
-    Pen {
-        count,
-        stream,
+    let next = Record {
+        name,
         job,
         start: t,
         length: n,
-    }
+    };
+    Pen { count, run: next }
 }
 
 // No record yet, and no run.
 fn blank_pen() -> Pen
     ensures { λ r. ⌜ r ≡ blank ⌝ }
 {
-    Pen {
-        count: 0,
-        stream: 0,
+    let free = spec_model::free_entry();
+    let name = free.name;
+    let none = Slots(0);
+    let run = Record {
+        name,
         job: 0,
-        start: 0,
-        length: 0,
-    }
+        start: none,
+        length: none,
+    };
+    Pen { count: 0, run }
 }
 
 // The records of the plan in the first words, and how many there are, where row i has counts[i] jobs that need each[i] slots. Every later
 // word stays as it was. Only the first rows have jobs, so that the work grows with them. What the jobs still need is made here, where it is
 // used up, so that no array of it is copied.
 pub fn write_plan(
-    b: u32,
+    f: Frame,
     rows: usize,
-    streams: &[u32; 32],
+    names: [Name; 32],
     lengths: &[u32; 32],
     counts: &[u32; 32],
     each: &[u32; 32],
     plan: &mut [u32],
 ) -> usize
-    requires { ⌜ Rows b (now streams) (now lengths) (needRows (now counts) (now each)) × (4096 ≤ length (now plan)) ⌝ }
-    requires { ⌜ (rows ≤ 32) × Spare b rows (now lengths) (needRows (now counts) (now each)) ⌝ }
-    requires { ⌜ (length (now streams) ≡ 32) × ((length (now lengths) ≡ 32) × Counted (now counts) (now each)) ⌝ }
+    requires { ⌜ Rows (slotsIn f) names (now lengths) (needRows (now counts) (now each)) × (planWords ≤ length (now plan)) ⌝ }
+    requires { ⌜ (rows ≤ places) × Spare (slotsIn f) rows (now lengths) (needRows (now counts) (now each)) ⌝ }
+    requires { ⌜ (length (now lengths) ≡ places) × Counted (now counts) (now each) ⌝ }
     ensures { λ r. let needs = needRows (now (counts .entry)) (now (each .entry)) in
-        let runs = rowPlan b (now (streams .entry)) (now (lengths .entry)) needs in
-        ⌜ (r ≡ length runs) × ((r ≤ 1024) × (now (plan .exit) ≡ wordsOf runs ++ drop (4 * r) (now (plan .entry)))) ⌝ }
+        let runs = rowPlan (slotsIn f) names (now (lengths .entry)) needs in
+        ⌜ (r ≡ length runs) × ((r ≤ mostRecords) × (now (plan .exit) ≡ wordsOf runs ++ drop (recordWords * r) (now (plan .entry)))) ⌝ }
 {
-    let mut left = [[0u32; 16]; 32];
+    let b = f.slots;
+    let mut left = [[0u32; 16]; spec_model::PLACES];
     fill_rows(&mut left, rows, counts, each);
-    let mut heads = [16usize; 32];
+    let mut heads = [16usize; spec_model::PLACES];
     fill_heads(&mut heads, rows, &left);
-    let mut releases = [NO_RELEASE; 32];
+    let mut releases = [NO_RELEASE; spec_model::PLACES];
     fill_releases(&mut releases, rows, lengths, &heads);
     let mut pen = blank_pen();
-    let mut t: u32 = 0;
-    let mut next: u32 = 0;
-    while t < b {
+    let mut t = Slots(0);
+    let mut next = Slots(0);
+    while t.0 < b.0 {
         next = next_after(b, rows, lengths, t, next);
         let i = choose_place(t, rows, lengths, &releases);
-        if i < 32 {
+        if i < spec_model::PLACES {
             let j = heads[i];
             let need = left[i][j];
-            let n = base_numbers::smaller(need, next - t);
+            let n = base_numbers::smaller(need, next.0 - t.0);
             left[i][j] = need - n;
             if need == n {
                 heads[i] = first_left(left[i]);
-                releases[i] = release_of(lengths[i], heads[i]);
+                let release = release_of(Slots(lengths[i]), heads[i]);
+                releases[i] = release.0;
             }
-            pen = extend_run(pen, plan, streams[i], j as u32, t, n);
-            t = t + n;
+            let name = names[i];
+            pen = extend_run(pen, plan, name, j as u32, t, Slots(n));
+            t = Slots(t.0 + n);
         } else {
             t = next;
         }

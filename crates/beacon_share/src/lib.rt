@@ -1,16 +1,18 @@
 // What each request gets of an interval: steps B and C of document 01, "One beacon", over a table's places. Nothing here sorts: what is owed
-// at lower ranks is added up, place by place. The loops stop after the last place that is held.
+// at lower ranks is added up, place by place. The loops stop after the last place that is held. Arrays that are lent hold numbers of slots,
+// since no array of a type of ours can be; each is wrapped as it is read.
 ghost use mathlib.Core.Path.{_≡_};
-ghost use Prim.Native.Nat.{_-_, _+_, _*_, _≤_, _<_};
-ghost use Rattle.spec_rules.specs.Share.{extra};
+ghost use Prim.Native.Nat.{_-_, _*_, _≤_, _<_};
 ghost use mathlib.Core.Bool.{cond};
-ghost use mathlib.Core.List.{map};
 ghost use lib.Dec.{ltb};
 ghost use lib.ListN.{length, getD};
 ghost use Rattle.spec_lists.specs.All.{All};
 ghost use Rattle.base_lists.specs.Spare.{Spare};
+ghost use Rattle.spec_model.specs.Tables.{places};
+ghost use Rattle.spec_rules.specs.Share.{extra};
 ghost use Rattle.table_queue.specs.Queues.{owedBelow, pieceOf, piecesOf, Queueing, Bounded};
-ghost use Rattle.beacon_share.specs.Shares.{roomsBy, weightBy, sharesBy};
+ghost use Rattle.beacon_share.specs.Shares.{roomsBy, weightBy, grantsBy, sharesBy, noShares};
+use spec_model::Frame;
 use spec_model::Slots;
 use table_queue::Queue;
 
@@ -42,13 +44,13 @@ pub fn extra(remains: Slots, weight: u64, headroom: Slots) -> Slots
 }
 
 // ---- B. kinds 2 and 3 take what they are owed
-fn owed_if_lower(owed: u32, rank: u64, own: u64) -> u32
-    ensures { λ r. ⌜ r ≡ cond (ltb rank own) owed 0 ⌝ }
+fn owed_if_lower(owed: Slots, rank: u64, own: u64) -> Slots
+    ensures { λ r. ⌜ r .0 ≡ cond (ltb rank own) (owed .0) 0 ⌝ }
 {
     if rank < own {
         return owed;
     }
-    0
+    Slots(0)
 }
 
 // What is owed at lower ranks than one's own.
@@ -58,123 +60,144 @@ fn owed_below(ranks: &[u64], owed: &[u32], used: usize, own: u64) -> u64
 {
     let mut all: u64 = 0;
     for i in 0..used {
-        all = all + (owed_if_lower(owed[i], ranks[i], own) as u64);
+        let part = owed_if_lower(Slots(owed[i]), ranks[i], own);
+        all = all + (part.0 as u64);
     }
     all
 }
 
 // The smaller of what is owed at a place and what lower ranks leave. Where nothing is owed the others are not looked at.
-fn piece_at(ranks: &[u64], owed: &[u32], used: usize, capacity: Slots, i: usize) -> u32
+fn piece_at(ranks: &[u64], owed: &[u32], used: usize, capacity: Slots, i: usize) -> Slots
     requires { ⌜ Queueing (now ranks) (now owed) used × (i < used) ⌝ }
     ensures { λ r. let ks = now (ranks .entry) in let os = now (owed .entry) in
-        ⌜ r ≡ pieceOf (capacity .0) ks os (getD ks i 0) (getD os i 0) ⌝ }
+        ⌜ r .0 ≡ pieceOf (capacity .0) ks os (getD ks i 0) (getD os i 0) ⌝ }
 {
     let own = owed[i];
     if own == 0 {
-        return 0;
+        return Slots(0);
     }
     let rest = left_of(capacity, owed_below(ranks, owed, used, ranks[i]));
-    base_numbers::smaller(own, rest.0)
+    Slots(base_numbers::smaller(own, rest.0))
 }
 
 // For a tidy table's queue these are the slots of step B, place by place: Queues.pieces-right.
 fn pieces(q: Queue, capacity: Slots) -> [u32; 32]
-    requires { ⌜ (q .used ≤ 32) × Spare 0 (q .used) (q .owed) ⌝ }
+    requires { ⌜ (q .used ≤ places) × Spare 0 (q .used) (q .owed) ⌝ }
     ensures { λ r. ⌜ r ≡ piecesOf (capacity .0) (q .ranks) (q .owed) ⌝ }
 {
     let used = q.used;
     let ranks = q.ranks;
     let owed = q.owed;
-    let mut pieces = [0u32; 32];
+    let mut pieces = [0u32; spec_model::PLACES];
     for i in 0..used {
-        pieces[i] = piece_at(&ranks, &owed, used, capacity, i);
+        let piece = piece_at(&ranks, &owed, used, capacity, i);
+        pieces[i] = piece.0;
     }
     pieces
 }
 
 // ---- C. what remains is shared in proportion
-fn weight_of(jobs: u32, room: u32) -> u64
-    ensures { λ r. ⌜ r ≡ jobs * room ⌝ }
+// What a place may still get after its piece.
+fn room_of(limit: Slots, piece: Slots) -> Slots
+    ensures { λ r. ⌜ r .0 ≡ limit .0 - piece .0 ⌝ }
+{
+    Slots(base_numbers::less(limit.0, piece.0))
+}
+
+fn weight_of(jobs: u32, room: Slots) -> u64
+    ensures { λ r. ⌜ r ≡ jobs * room .0 ⌝ }
 {
     let count = jobs as u64;
-    count * (room as u64)
+    count * (room.0 as u64)
 }
 
-// What each place may still get after its piece, and W.
-struct Rooms {
-    rooms: [u32; 32],
-    weight: u64,
-}
-
-fn rooms_of(used: usize, limits: &[u32; 32], jobs: &[u32; 32], pieces: &[u32; 32]) -> Rooms
-    requires { ⌜ (used ≤ 32) × (Spare 0 used (now limits) × All (λ m. m ≤ 16) (now jobs)) ⌝ }
-    requires { ⌜ (length (now limits) ≡ 32) × ((length (now jobs) ≡ 32) × (length (now pieces) ≡ 32)) ⌝ }
-    ensures { λ r. let ds = roomsBy (now (limits .entry)) (now (pieces .entry)) in
-        ⌜ (r .rooms ≡ ds) × (r .weight ≡ weightBy (now (jobs .entry)) ds) ⌝ }
+// W.
+fn whole_weight(used: usize, limits: &[u32; 32], jobs: &[u32; 32], pieces: &[u32; 32]) -> u64
+    requires { ⌜ (used ≤ places) × (Spare 0 used (now limits) × All (λ m. m ≤ 16) (now jobs)) ⌝ }
+    requires { ⌜ (length (now limits) ≡ places) × ((length (now jobs) ≡ places) × (length (now pieces) ≡ places)) ⌝ }
+    ensures { λ r. ⌜ r ≡ weightBy (now (jobs .entry)) (roomsBy (now (limits .entry)) (now (pieces .entry))) ⌝ }
 {
-    let mut rooms = [0u32; 32];
     let mut weight: u64 = 0;
     for i in 0..used {
-        let room = base_numbers::less(limits[i], pieces[i]);
-        rooms[i] = room;
+        let room = room_of(Slots(limits[i]), Slots(pieces[i]));
         weight = weight + weight_of(jobs[i], room);
     }
-    Rooms { rooms, weight }
+    weight
 }
 
-// ---- the figures by which an interval is shared: E, L and W
+// The figures by which an interval is shared: E, L and W.
 pub struct Sharing {
     pub capacity: Slots,
     pub remains: Slots,
     pub weight: u64,
 }
 
-fn extras_of(used: usize, rooms: [u32; 32], s: Sharing) -> [u32; 32]
-    requires { ⌜ (used ≤ 32) × Spare 0 used rooms ⌝ }
-    ensures { λ r. ⌜ r ≡ map (extra (s .remains .0) (s .weight)) rooms ⌝ }
-{
-    let remains = s.remains;
-    let mut extras = [0u32; 32];
-    for i in 0..used {
-        let x = extra(remains, s.weight, Slots(rooms[i]));
-        extras[i] = x.0;
-    }
-    extras
+// What one place gets: its slots of step B, and its extra, which for kind 1 goes to each of its jobs.
+pub struct Granted {
+    pub piece: Slots,
+    pub extra: Slots,
 }
 
-// What each place gets: its slots of step B and its extra, which for kind 1 goes to each of its jobs.
+fn grants_of(used: usize, limits: &[u32; 32], pieces: &[u32; 32], s: Sharing) -> [Granted; 32]
+    requires { ⌜ (used ≤ places) × (Spare 0 used (now limits) × Spare 0 used (now pieces)) ⌝ }
+    requires { ⌜ (length (now limits) ≡ places) × (length (now pieces) ≡ places) ⌝ }
+    ensures { λ r. ⌜ r ≡ grantsBy (s .remains .0) (s .weight) (now (limits .entry)) (now (pieces .entry)) ⌝ }
+{
+    let none = Slots(0);
+    let nothing = Granted {
+        piece: none,
+        extra: none,
+    };
+    let mut grants = [nothing; spec_model::PLACES];
+    for i in 0..used {
+        let piece = Slots(pieces[i]);
+        let room = room_of(Slots(limits[i]), piece);
+        let extra = extra(s.remains, s.weight, room);
+        let g = Granted { piece, extra };
+        grants[i] = g;
+    }
+    grants
+}
+
+// What each place gets.
 pub struct Shares {
-    pub pieces: [u32; 32],
-    pub extras: [u32; 32],
+    pub grants: [Granted; 32],
+}
+
+// Nothing for any place.
+pub fn no_shares() -> Shares
+    ensures { λ r. ⌜ r ≡ noShares ⌝ }
+{
+    let idle = Slots(0);
+    let nothing = Granted {
+        piece: idle,
+        extra: idle,
+    };
+    Shares {
+        grants: [nothing; spec_model::PLACES],
+    }
 }
 
 // For a tidy table's queue these are its slots of steps B and C: Shares.shares-right. Step B gives all that is owed, or the whole
 // capacity: what remains is the capacity less all that is owed.
-pub fn shares_of(interval: Slots, q: Queue) -> Shares
+pub fn shares_of(f: Frame, q: Queue) -> Shares
     requires { ⌜ Bounded q ⌝ }
-    ensures { λ r. ⌜ r ≡ sharesBy (interval .0) q ⌝ }
+    ensures { λ r. ⌜ r ≡ sharesBy f q ⌝ }
 {
     let used = q.used;
     let ranks = q.ranks;
     let owed = q.owed;
     let limits = q.limits;
     let jobs = q.jobs;
-    let capacity = left_of(interval, q.load);
+    let capacity = left_of(spec_model::room_in(f), q.load);
     let pieces = pieces(q, capacity);
     let remains = left_of(capacity, owed_below(&ranks, &owed, used, u64::MAX));
-    let r = rooms_of(used, &limits, &jobs, &pieces);
-    let rooms = r.rooms;
+    let weight = whole_weight(used, &limits, &jobs, &pieces);
     let s = Sharing {
         capacity,
         remains,
-        weight: r.weight,
+        weight,
     };
-    let extras = extras_of(used, rooms, s);
-    Shares { pieces, extras }
-}
-
-// What one place gets.
-pub struct Granted {
-    pub piece: Slots,
-    pub extra: Slots,
+    let grants = grants_of(used, &limits, &pieces, s);
+    Shares { grants }
 }

@@ -12,16 +12,18 @@ use Rattle.spec_lists.specs.All.{All, stop, and}
 use Rattle.spec_model.specs.Entries.{freeEntry, isHeld}
 use Rattle.spec_model.specs.declared.Entry.{Entry}
 use Rattle.spec_model.specs.declared.Table.{Table}
+use Rattle.spec_model.specs.Tables.{withEntries}
+use Rattle.spec_model.specs.Frames.{slotsIn}
 use Rattle.spec_rules.specs.Share.{order}
 use Rattle.spec_rules.specs.Slots.{tieOrder, jobs, choose, slotsFrom, runsFrom, prepend, stepD, stepE}
 use Rattle.spec_rules.specs.Ahead.{stepF}
-use Rattle.spec_rules.specs.Calls.{recordWords, mostRecords, wordsOf, planOf, advanced, beacon}
+use Rattle.spec_rules.specs.Calls.{planOf, advanced, beacon}
+use Rattle.spec_rules.specs.Records.{wordsOf, planWords}
+use Rattle.spec_rules.specs.WellFormed.{Tidy}
 use Rattle.law_steps.specs.Settled.{after-free}
-use Rattle.law_steps.specs.Places.{Tidy}
 use Rattle.beacon_share.specs.declared.Shares.{Shares}
 use Rattle.table_queue.specs.Queues.{Used}
 use Rattle.beacon_share.specs.Shares.{sharesOf}
-use Rattle.spec_rules.specs.Tables.{withEntries}
 
 -- ---- every place: u is the table after t, where n places are in use and get the shares s; with none in use it is t itself
 pub record Moves (t : Table) (n : ℕ) (s : Shares) (u : Table) : Type 0 where
@@ -51,13 +53,13 @@ no-runs (suc n) s = no-runs n (suc s)
 module _ (t : Table) (h : Used 0 t) where
   none-planned : planOf t ≡ []
   unfolding planOf stepE stepD jobs tieOrder order
-  none-planned = rw (none-kept (h .1)) (no-runs (t .interval .0) 0)
+  none-planned = rw (none-kept (h .1)) (no-runs (slotsIn (t .frame)) 0)
 
   none-advanced : advanced t ≡ t
   unfolding advanced stepF
   none-advanced = ap (withEntries t) (none-moved _ (after-free _ _) (h .1))
 
-  pub none-beacon : (ws : List ℕ) → ltb (length ws) (recordWords * mostRecords) ≡ false
+  pub none-beacon : (ws : List ℕ) → ltb (length ws) planWords ≡ false
       → beacon t ws ≡ record { answer = 0; count = 0; words = ws; table = t }
   unfolding beacon wordsOf
   none-beacon ws q = rw (q, none-planned, none-advanced) refl

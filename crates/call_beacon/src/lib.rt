@@ -1,9 +1,9 @@
 // Beacons: document 01, "Where each refusal is checked", `beacon`, and "One beacon". The plan of the interval is written to lent memory;
 // the call by value gives back the table after it, and a caller that changes its table in its place moves it on itself.
 ghost use mathlib.Core.Path.{_≡_};
+ghost use Rattle.spec_model.specs.Numbers.{beaconNumber};
 ghost use Rattle.spec_rules.specs.Calls.{beacon};
 ghost use Rattle.spec_rules.specs.WellFormed.{WellFormed};
-ghost use Rattle.spec_model.specs.Numbers.{beaconNumber};
 ghost use Rattle.call_beacon.specs.Moves.{Moves};
 use beacon_share::Shares;
 use spec_model::BeaconAnswer;
@@ -27,10 +27,7 @@ pub struct Planned {
 fn unplanned(answer: BeaconAnswer) -> Planned
     ensures { λ r. ⌜ (r .answer ≡ answer) × ((r .count ≡ 0) × (r .used ≡ 0)) ⌝ }
 {
-    let shares = Shares {
-        pieces: [0; 32],
-        extras: [0; 32],
-    };
+    let shares = beacon_share::no_shares();
     Planned {
         answer,
         count: 0,
@@ -39,7 +36,7 @@ fn unplanned(answer: BeaconAnswer) -> Planned
     }
 }
 
-// The plan stands in the first 4 times count words; every later word stays as it was. Refused, every word does. Where nothing is held
+// The plan stands in the first words, so many for each record; every later word stays as it was. Refused, every word does. Where nothing is held
 // there is nothing to plan.
 pub fn plan_interval(t: Table, plan: &mut [u32]) -> Planned
     requires { ⌜ WellFormed t ⌝ }
@@ -47,14 +44,14 @@ pub fn plan_interval(t: Table, plan: &mut [u32]) -> Planned
         ⌜ (beaconNumber (r .answer) ≡ b .answer) × ((r .count ≡ b .count) × ((now (plan .exit) ≡ b .words)
         × Moves t (r .used) (r .shares) (b .table))) ⌝ }
 {
-    if plan.len() < 4096 {
+    if plan.len() < spec_model::PLAN_WORDS {
         return unplanned(BeaconAnswer::PlanTooShort);
     }
     let q = table_queue::queue_of(t);
     if q.used == 0 {
         return unplanned(BeaconAnswer::Planned);
     }
-    let shares = beacon_share::shares_of(t.interval, q);
+    let shares = beacon_share::shares_of(t.frame, q);
     let count = beacon_jobs::write_jobs(t, q, shares, plan);
     Planned {
         answer: BeaconAnswer::Planned,

@@ -13,26 +13,27 @@ use borrow.Author.Tests.{eqb-true, eqb-false, eq-eqb, ne-eqb, leb-true, leb-fals
 use Rattle.spec_lists.specs.Lists.{sumOf}
 use Rattle.base_lists.specs.Sums.{sum-keep-le}
 use Rattle.base_lists.specs.First.{firstOf}
-use Rattle.spec_model.specs.Requests.{Check, check, refusal, streamInRange, fieldChecks}
+use Rattle.spec_model.specs.Requests.{Check, check, refusal, fieldChecks}
 use Rattle.spec_model.specs.Answers.{fieldsAnswer}
 use Rattle.spec_model.specs.Entries.{freeEntry, isHeld, entryOf}
 use Rattle.spec_model.specs.declared.Entry.{Entry}
 use Rattle.spec_model.specs.declared.Request.{Request}
 use Rattle.spec_model.specs.declared.Table.{Table}
+use Rattle.spec_model.specs.Names.{nameInRange}
+use Rattle.spec_model.specs.declared.Frame.{Frame}
+use Rattle.spec_model.specs.Frames.{roomIn}
+use Rattle.spec_model.specs.Tables.{places, mostHeld, noPlace, heldOf, withEntries, putIn}
 use Rattle.spec_rules.specs.Share.{load}
 use Rattle.spec_rules.specs.Ahead.{fitsAhead}
-use Rattle.spec_rules.specs.Calls.{places, heldOf, holds, offerAnswer, placed, offered}
-use Rattle.spec_rules.specs.WellFormed.{WellFormed}
+use Rattle.spec_rules.specs.Calls.{holds, offerAnswer, placed, offered}
+use Rattle.spec_rules.specs.WellFormed.{WellFormed, Tidy}
 use Rattle.law_steps.specs.Refusals.{refused-offer}
-use Rattle.law_steps.specs.Offers.{Numbered, refusal-none, none-refusal, refusal-stops}
-use Rattle.law_steps.specs.Offers.{fields-numbered, offerChecksBut, checks-passed, isFull, hasTime}
-use Rattle.law_steps.specs.Offers.{offer-refused, offer-passed}
-use Rattle.law_steps.specs.Places.{Tidy, formed-tidy}
+use Rattle.law_steps.specs.Offers.{Numbered, refusal-none, none-refusal, refusal-stops, fields-numbered, offerChecksBut, checks-passed, isFull}
+use Rattle.law_steps.specs.Offers.{hasTime, offer-refused, offer-passed}
 use Rattle.law_ahead.specs.Formed.{passed-together, placed-tidy, placed-ahead}
 use Rattle.law_ahead.specs.Even.{evenly, even-ahead}
 use Rattle.ahead_even.specs.Need.{evenNeed, needs-places}
 use Rattle.table_survey.specs.Free.{isFree, place-full, place-taken}
-use Rattle.spec_rules.specs.Tables.{withEntries, putIn}
 use Rattle.table_places.specs.Put.{put-past}
 
 -- one list of checks, then another
@@ -44,13 +45,13 @@ refusal-append cs ds n =
     ]
 
 -- refusals 10 to 16
-pub but-last : (held full : Bool) (B : ℕ) (q : Request) → (let a = fieldsAnswer B q in
-    refusal (offerChecksBut held full B q)
-    ≡ cond (not (streamInRange (q .stream))) 10 (cond held 11 (cond (eqb a 0) (cond full 16 0) a)))
+pub but-last : (held full : Bool) (F : Frame) (q : Request) → (let a = fieldsAnswer F q in
+    refusal (offerChecksBut held full F q)
+    ≡ cond (not (nameInRange (q .name))) 10 (cond held 11 (cond (eqb a 0) (cond full 16 0) a)))
 unfolding refusal fieldsAnswer
-but-last held full B q =
-    ap (λ r. cond (not (streamInRange (q .stream))) 10 (cond held 11 r))
-    (refusal-append (fieldChecks B q) (check 16 full ∷ []) (fields-numbered B q))
+but-last held full F q =
+    ap (λ r. cond (not (nameInRange (q .name))) 10 (cond held 11 r))
+    (refusal-append (fieldChecks F q) (check 16 full ∷ []) (fields-numbered F q))
 
 -- the table with the request in a free place
 abbrev pub withRequest : Table → Request → Table
@@ -58,13 +59,13 @@ withRequest t q = withEntries t (placed (entryOf q) (t .entries))
 
 -- what one pass over the places has found: whether the stream is held, the first free place, what an even share takes of an interval
 module _ (t : Table) (w : WellFormed t) (q : Request) {f : ℕ} (e : f ≡ firstOf isFree (t .entries)) where
-  surveyed-full : leb places f ≡ isFull t q
-  surveyed-full = ap (leb places) e ∙ place-full (t .entries) (w .size)
+  surveyed-full : leb mostHeld f ≡ isFull t q
+  surveyed-full = ap (leb mostHeld) e ∙ place-full (t .entries) (w .tidy .size)
 
-  pub surveyed-checks : {b : Bool} → b ≡ holds t (q .stream)
-      → refusal (offerChecksBut b (leb places f) (t .interval .0) q)
-      ≡ refusal (offerChecksBut (holds t (q .stream)) (isFull t q) (t .interval .0) q)
-  surveyed-checks h = ap₂ (λ b c. refusal (offerChecksBut b c (t .interval .0) q)) h surveyed-full
+  pub surveyed-checks : {b : Bool} → b ≡ holds t (q .name)
+      → refusal (offerChecksBut b (leb mostHeld f) (t .frame) q)
+      ≡ refusal (offerChecksBut (holds t (q .name)) (isFull t q) (t .frame) q)
+  surveyed-checks h = ap₂ (λ b c. refusal (offerChecksBut b c (t .frame) q)) h surveyed-full
 
   pub surveyed-place : {x : Entry} → x ≡ entryOf q → putIn t f x ≡ withRequest t q
   surveyed-place h =
@@ -72,10 +73,10 @@ module _ (t : Table) (w : WellFormed t) (q : Request) {f : ℕ} (e : f ≡ first
 
 -- refused, an offer puts nothing in the table
 module _ (t : Table) (w : WellFormed t) (q : Request) where
-  nothing-put : offerAnswer t q ≢ 0 → putIn t places freeEntry ≡ offered t q
-  nothing-put h = put-past t places freeEntry (omega (arith, w .size)) ∙ sym (refused-offer t q h)
+  nothing-put : offerAnswer t q ≢ 0 → putIn t noPlace freeEntry ≡ offered t q
+  nothing-put h = put-past t noPlace freeEntry (omega (arith, w .tidy .size)) ∙ sym (refused-offer t q h)
 
-  pub outside-answer : streamInRange (q .stream) ≡ false → (10 ≡ offerAnswer t q) × (putIn t places freeEntry ≡ offered t q)
+  pub outside-answer : nameInRange (q .name) ≡ false → (10 ≡ offerAnswer t q) × (putIn t noPlace freeEntry ≡ offered t q)
   unfolding offerAnswer refusal
   outside-answer h =
       let e : 10 ≡ offerAnswer t q = rw h in
@@ -83,30 +84,30 @@ module _ (t : Table) (w : WellFormed t) (q : Request) where
 
 -- a is what the other checks answer
 module _ (t : Table) (w : WellFormed t) (q : Request) {a : ℕ}
-    (r : a ≡ refusal (offerChecksBut (holds t (q .stream)) (isFull t q) (t .interval .0) q))
+    (r : a ≡ refusal (offerChecksBut (holds t (q .name)) (isFull t q) (t .frame) q))
   where
-    pub refused-answer : eqb a 0 ≡ false → (a ≡ offerAnswer t q) × (putIn t places freeEntry ≡ offered t q)
+    pub refused-answer : eqb a 0 ≡ false → (a ≡ offerAnswer t q) × (putIn t noPlace freeEntry ≡ offered t q)
     refused-answer h =
         let n : a ≢ 0 = eqb-false a 0 h in
         let e : a ≡ offerAnswer t q = r ∙ sym (offer-refused t q (λ z. n (r ∙ z))) in
         (e, nothing-put t w q (λ z. n (e ∙ z)))
 
     module _ (h : eqb a 0 ≡ true) where
-      none : refusal (offerChecksBut (holds t (q .stream)) (isFull t q) (t .interval .0) q) ≡ 0
+      none : refusal (offerChecksBut (holds t (q .name)) (isFull t q) (t .frame) q) ≡ 0
       none = sym r ∙ eqb-true a 0 h
 
       -- a place is free
       pub free-inside : {f : ℕ} → f ≡ firstOf isFree (t .entries) → f < places
       free-inside {f} e =
-          leb-false places f (surveyed-full t w q e ∙ checks-passed (holds t (q .stream)) (isFull t q) (t .interval .0) q none .place)
+          leb-false mostHeld f (surveyed-full t w q e ∙ checks-passed (holds t (q .name)) (isFull t q) (t .frame) q none .place)
 
       pub request-tidy : Tidy (withRequest t q)
       request-tidy = placed-tidy t w q none
 
-      ahead : {b : Bool} → b ≡ fitsAhead (t .interval .0) (heldOf (withRequest t q)) → hasTime t q ≡ b
+      ahead : {b : Bool} → b ≡ fitsAhead (t .frame) (heldOf (withRequest t q)) → hasTime t q ≡ b
       ahead e = sym (e ∙ placed-ahead t w q none)
 
-      pub fits-answer : {b : Bool} → b ≡ fitsAhead (t .interval .0) (heldOf (withRequest t q)) → b ≡ true
+      pub fits-answer : {b : Bool} → b ≡ fitsAhead (t .frame) (heldOf (withRequest t q)) → b ≡ true
           → (a ≡ offerAnswer t q) × (withRequest t q ≡ offered t q)
       unfolding offered
       fits-answer e k =
@@ -115,18 +116,18 @@ module _ (t : Table) (w : WellFormed t) (q : Request) {a : ℕ}
 
       -- where an even share is enough, with the request too, looking ahead says yes
       pub fits-evenly : {b : Bool} {n : ℕ} {e : Entry} → n ≡ sumOf evenNeed (t .entries) → e ≡ entryOf q
-          → b ≡ leb (n + evenNeed e) (t .interval .0) → b ≡ true → true ≡ fitsAhead (t .interval .0) (heldOf (withRequest t q))
+          → b ≡ leb (n + evenNeed e) (roomIn (t .frame)) → b ≡ true → true ≡ fitsAhead (t .frame) (heldOf (withRequest t q))
       unfolding evenNeed load
       fits-evenly {b} {n} {e} p i h k =
-          let room : n + evenNeed (entryOf q) ≤ t .interval .0 =
-          leb-true _ _ (sym (ap (λ x. leb (n + evenNeed x) (t .interval .0)) i) ∙ sym h ∙ k) in
+          let room : n + evenNeed (entryOf q) ≤ roomIn (t .frame) =
+          leb-true _ _ (sym (ap (λ x. leb (n + evenNeed x) (roomIn (t .frame))) i) ∙ sym h ∙ k) in
           let es = heldOf t in
-          let enough : load (entryOf q ∷ es) + sumOf evenly (entryOf q ∷ es) ≤ t .interval .0 =
-          omega (arith, p, needs-places t (formed-tidy w), sum-keep-le evenly isHeld (t .entries)) in
-          sym (placed-ahead t w q none ∙ even-ahead (t .interval .0) (entryOf q ∷ es) (passed-together t w q none) enough)
+          let enough : load (entryOf q ∷ es) + sumOf evenly (entryOf q ∷ es) ≤ roomIn (t .frame) =
+          omega (arith, p, needs-places t (w .tidy), sum-keep-le evenly isHeld (t .entries)) in
+          sym (placed-ahead t w q none ∙ even-ahead (t .frame) (entryOf q ∷ es) (passed-together t w q none) enough)
 
-      pub no-time : {b : Bool} → b ≡ fitsAhead (t .interval .0) (heldOf (withRequest t q)) → b ≡ false
-          → (17 ≡ offerAnswer t q) × (putIn t places freeEntry ≡ offered t q)
+      pub no-time : {b : Bool} → b ≡ fitsAhead (t .frame) (heldOf (withRequest t q)) → b ≡ false
+          → (17 ≡ offerAnswer t q) × (putIn t noPlace freeEntry ≡ offered t q)
       no-time e k =
           let z : offerAnswer t q ≡ 17 = offer-passed t q none ∙ ap (λ (b : Bool). cond (not b) 17 0) (ahead e ∙ k) in
           (sym z, nothing-put t w q (λ y. absurd (omega arith)))

@@ -2,12 +2,14 @@
 ghost use mathlib.Core.Bool.{true};
 ghost use mathlib.Core.Path.{_≡_};
 ghost use lib.Dec.{eqb, leb};
-ghost use Rattle.spec_model.specs.Requests.{refusal, streamInRange};
+ghost use Rattle.spec_model.specs.Requests.{refusal};
 ghost use Rattle.spec_model.specs.Answers.{offerNumber};
 ghost use Rattle.spec_model.specs.Entries.{entryOf};
-ghost use Rattle.spec_rules.specs.Calls.{places};
+ghost use Rattle.spec_model.specs.Names.{nameInRange};
+ghost use Rattle.spec_model.specs.Tables.{mostHeld};
 ghost use Rattle.law_steps.specs.Offers.{offerChecksBut};
 use spec_model::Entry;
+use spec_model::Frame;
 use spec_model::Intervals;
 use spec_model::OfferAnswer;
 use spec_model::Request;
@@ -27,9 +29,10 @@ pub fn is_accepted(answer: OfferAnswer) -> bool
 pub fn entry_of(q: Request) -> Entry
     ensures { λ r. ⌜ r ≡ entryOf q ⌝ }
 {
+    let name = q.name;
     let kind = q.kind;
     let mut e = Entry {
-        stream: q.stream,
+        name,
         kind,
         parts: q.period,
         period: Intervals(0),
@@ -51,18 +54,18 @@ pub fn entry_of(q: Request) -> Entry
 }
 
 // The first of refusals 11 to 16 that applies, or Accepted where none does.
-pub fn first_refusal(interval: Slots, s: Survey, q: Request) -> OfferAnswer
-    requires { ⌜ streamInRange (q .stream) ≡ true ⌝ }
-    ensures { λ r. ⌜ offerNumber r ≡ refusal (offerChecksBut (s .taken) (leb places (s .free)) (interval .0) q) ⌝ }
+pub fn first_refusal(f: Frame, s: Survey, q: Request) -> OfferAnswer
+    requires { ⌜ nameInRange (q .name) ≡ true ⌝ }
+    ensures { λ r. ⌜ offerNumber r ≡ refusal (offerChecksBut (s .taken) (leb mostHeld (s .free)) f q) ⌝ }
 {
     if s.taken {
         return OfferAnswer::StreamHeld;
     }
-    let fields = kind_checks::check_fields(q, interval);
+    let fields = kind_checks::check_fields(q, f);
     if !is_accepted(fields) {
         return fields;
     }
-    if 32 <= s.free {
+    if spec_model::PLACES <= s.free {
         return OfferAnswer::TableFull;
     }
     OfferAnswer::Accepted

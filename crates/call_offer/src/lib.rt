@@ -3,14 +3,15 @@
 ghost use mathlib.Core.Path.{_≡_};
 ghost use Rattle.spec_model.specs.Answers.{offerNumber};
 ghost use Rattle.spec_model.specs.Entries.{freeEntry};
-ghost use Rattle.spec_rules.specs.Calls.{places, offerAnswer, offered};
+ghost use Rattle.spec_model.specs.Tables.{noPlace, putIn};
+ghost use Rattle.spec_model.specs.declared.Request.{Request};
+ghost use Rattle.spec_rules.specs.Calls.{offerAnswer, offered};
 ghost use Rattle.spec_rules.specs.WellFormed.{WellFormed};
-ghost use Rattle.spec_rules.specs.Tables.{putIn};
-ghost use Rattle.spec_model.specs.Six.{request};
 
 mod checks; // checks.rt: an offer's checks but for looking ahead, and the entry that it becomes
 
 use spec_model::Entry;
+use spec_model::Name;
 use spec_model::OfferAnswer;
 use spec_model::Request;
 use spec_model::Table;
@@ -20,7 +21,7 @@ pub struct Offering {
     pub table: Table,
 }
 
-// An offer's answer, and what it puts in the table: its entry, at a place. Place 32 stands for none.
+// An offer's answer, and what it puts in the table: its entry, at a place, or at no place.
 pub struct Decision {
     pub answer: OfferAnswer,
     pub place: usize,
@@ -29,12 +30,12 @@ pub struct Decision {
 
 // Refused, an offer puts nothing in the table.
 fn refused(answer: OfferAnswer) -> Decision
-    ensures { λ r. ⌜ r ≡ record { answer = answer; place = places; entry = freeEntry } ⌝ }
+    ensures { λ r. ⌜ r ≡ record { answer = answer; place = noPlace; entry = freeEntry } ⌝ }
 {
     let entry = spec_model::free_entry();
     Decision {
         answer,
-        place: 32,
+        place: spec_model::NO_PLACE,
         entry,
     }
 }
@@ -44,18 +45,19 @@ pub fn decide(t: Table, q: Request) -> Decision
     requires { ⌜ WellFormed t ⌝ }
     ensures { λ r. ⌜ (offerNumber (r .answer) ≡ offerAnswer t q) × (putIn t (r .place) (r .entry) ≡ offered t q) ⌝ }
 {
-    if !q.stream_in_range() {
+    let name = q.name;
+    if !name.in_range() {
         return refused(OfferAnswer::StreamOutside);
     }
-    let s = table_survey::survey_for(t, q.stream);
-    let interval = t.interval;
-    let answer = checks::first_refusal(interval, s, q);
+    let s = table_survey::survey_for(t, name);
+    let frame = t.frame;
+    let answer = checks::first_refusal(frame, s, q);
     if !checks::is_accepted(answer) {
         return refused(answer);
     }
     let e = checks::entry_of(q);
     let at = s.free;
-    if table_survey::fits_with(s.needed, e, interval) {
+    if table_survey::fits_with(s.needed, e, frame) {
         return Decision {
             answer,
             place: at,
@@ -74,7 +76,7 @@ pub fn decide(t: Table, q: Request) -> Decision
 
 pub fn offer(
     t: Table,
-    stream: u32,
+    name: Name,
     kind: u32,
     period: u32,
     min: u32,
@@ -82,11 +84,11 @@ pub fn offer(
     life: u32,
 ) -> Offering
     requires { ⌜ WellFormed t ⌝ }
-    ensures { λ r. let q = request stream kind period min max life in
+    ensures { λ r. let q : Request = record { name = name; kind = kind; period = period; min = min; max = max; life = life } in
         ⌜ (offerNumber (r .answer) ≡ offerAnswer t q) × (r .table ≡ offered t q) ⌝ }
 {
     let q = Request {
-        stream,
+        name,
         kind,
         period,
         min,

@@ -2,55 +2,79 @@
 ghost use mathlib.Core.Bool.{cond};
 ghost use mathlib.Core.Path.{_≡_};
 ghost use lib.Dec.{eqb};
-ghost use Rattle.spec_rules.specs.Calls.{openAnswer, opened};
 ghost use Rattle.spec_model.specs.Numbers.{openNumber};
-ghost use Rattle.spec_rules.specs.Tables.{noneHeld, noTable};
+ghost use Rattle.spec_model.specs.Tables.{noneHeld, noTable};
+ghost use Rattle.spec_rules.specs.Settings.{openAnswer, Succeeds, frameOf, opened};
+use spec_model::Frame;
 use spec_model::OpenAnswer;
+use spec_model::Setting;
 use spec_model::Slots;
 use spec_model::Table;
+
+// The time units of an interval.
+const UNITS_LEAST: u32 = 1;
+
+const UNITS_LARGEST: u32 = 1000;
 
 pub struct Opening {
     pub answer: OpenAnswer,
     pub table: Table,
 }
 
-// No place is held. With 0 slots it stands for no table.
-pub fn empty_table(interval: u32) -> Table
-    ensures { λ r. ⌜ r ≡ noneHeld interval ⌝ }
+// No place is held.
+pub fn empty_table(frame: Frame) -> Table
+    ensures { λ r. ⌜ r ≡ noneHeld frame ⌝ }
 {
     let free = spec_model::free_entry();
     Table {
-        interval: Slots(interval),
-        entries: [free; 32],
+        frame,
+        entries: [free; spec_model::PLACES],
     }
 }
 
-pub fn open_answer(units: u32) -> OpenAnswer
-    ensures { λ r. ⌜ openNumber r ≡ openAnswer units ⌝ }
+// What stands where there is no table: an interval of 0 slots.
+pub fn no_table() -> Table
+    ensures { λ r. ⌜ r ≡ noTable ⌝ }
 {
-    if base_numbers::is_within(1, 1000, units) {
+    let slots = Slots(0);
+    empty_table(Frame { slots })
+}
+
+pub fn open_answer(s: Setting) -> OpenAnswer
+    ensures { λ r. ⌜ openNumber r ≡ openAnswer s ⌝ }
+{
+    if base_numbers::is_within(UNITS_LEAST, UNITS_LARGEST, s.units) {
         return OpenAnswer::Opened;
     }
     OpenAnswer::UnitsOutside
 }
 
-// The table of so many units, where an opening with them succeeds.
-pub fn opened_table(units: u32) -> Table
-    requires { ⌜ openAnswer units ≡ 0 ⌝ }
-    ensures { λ r. ⌜ r ≡ opened units ⌝ }
+// What an interval is after an opening that succeeds.
+fn frame_of(s: Setting) -> Frame
+    requires { ⌜ Succeeds s ⌝ }
+    ensures { λ r. ⌜ r ≡ frameOf s ⌝ }
 {
-    empty_table(1024 * units)
+    let slots = Slots(spec_model::UNIT_SLOTS * s.units);
+    Frame { slots }
 }
 
-// Refused, there is no table: what stands in its place has 0 slots, and no call is to be made on it.
-pub fn open(units: u32) -> Opening
-    ensures { λ r. ⌜ (openNumber (r .answer) ≡ openAnswer units) × (r .table ≡ cond (eqb (openAnswer units) 0) (opened units) noTable) ⌝ }
+// The table of an opening that succeeds.
+pub fn opened_table(s: Setting) -> Table
+    requires { ⌜ Succeeds s ⌝ }
+    ensures { λ r. ⌜ r ≡ opened s ⌝ }
 {
-    let answer = open_answer(units);
-    if call_answers::open_number(answer) != 0 {
-        let table = empty_table(0);
+    empty_table(frame_of(s))
+}
+
+// Refused, there is no table, and no call is to be made on what stands in its place.
+pub fn open(s: Setting) -> Opening
+    ensures { λ r. ⌜ (openNumber (r .answer) ≡ openAnswer s) × (r .table ≡ cond (eqb (openAnswer s) 0) (opened s) noTable) ⌝ }
+{
+    let answer = open_answer(s);
+    if call_answers::open_number(answer) != call_answers::DONE {
+        let table = no_table();
         return Opening { answer, table };
     }
-    let table = opened_table(units);
+    let table = opened_table(s);
     Opening { answer, table }
 }

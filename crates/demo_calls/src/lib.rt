@@ -3,21 +3,25 @@
 // What is printed is no part of a contract: a program over this crate runs the proved calls, and its run is held to the rows that are
 // stored beside it.
 ghost use mathlib.Core.Path.{_≡_};
-ghost use mathlib.Core.Bool.{cond, true};
+ghost use mathlib.Core.Bool.{cond};
 ghost use Prim.Native.Nat.{_/_};
 ghost use lib.Dec.{eqb};
 ghost use lib.ListN.{length};
-ghost use Rattle.spec_lists.specs.Lists.{within};
-ghost use Rattle.spec_rules.specs.Calls.{recordWords, openAnswer, opened, offered, heldAnswer, withdrawn, beacon};
+ghost use Rattle.spec_rules.specs.Calls.{offered, heldAnswer, withdrawn, beacon};
 ghost use Rattle.spec_rules.specs.Reading.{enquired, windowAnswer, windowPart};
+ghost use Rattle.spec_rules.specs.Records.{recordWords};
+ghost use Rattle.spec_rules.specs.Settings.{openAnswer, Succeeds, opened};
 ghost use Rattle.spec_rules.specs.WellFormed.{WellFormed};
 ghost use Rattle.spec_model.specs.Numbers.{openNumber, heldNumber, beaconNumber};
-ghost use Rattle.spec_rules.specs.Tables.{noTable};
-ghost use Rattle.spec_model.specs.Six.{request};
+ghost use Rattle.spec_model.specs.Tables.{noTable};
+ghost use Rattle.spec_model.specs.ByNumbers.{stream as named, setting, request};
 use call_beacon::Beaconing;
 use call_held::Enquiry;
 use call_open::Opening;
 use spec_model::Entry;
+use spec_model::Name;
+use spec_model::Setting;
+use spec_model::Slots;
 use spec_model::Table;
 
 pub fn line(text: &[u8]) {
@@ -34,6 +38,10 @@ fn field(n: u32) {
     io::write_all(1, b",");
 }
 
+fn name_field(name: Name) {
+    field(name.stream);
+}
+
 // Job, start and length are empty in the row of a call.
 fn end_row(answer: u32) {
     io::write_all(1, b",,,");
@@ -47,24 +55,24 @@ pub fn plain_row(verb: &[u8], answer: u32) {
     end_row(answer);
 }
 
-pub fn stream_row(verb: &[u8], stream: u32, answer: u32) {
+pub fn name_row(verb: &[u8], name: Name, answer: u32) {
     io::write_all(1, verb);
     io::write_all(1, b",");
-    field(stream);
+    name_field(name);
     end_row(answer);
 }
 
 // The i-th record of a plan, where the plan has that many words.
 fn slot_row(plan: &[u32], i: usize) {
-    if plan.len() / 4 <= i {
+    if plan.len() / spec_model::RECORD_WORDS <= i {
         return;
     }
-    let at = 4 * i;
+    let r = plan_record::read_record(plan, i);
     io::write_all(1, b"slot,");
-    field(plan[at]);
-    field(plan[at + 1]);
-    field(plan[at + 2]);
-    field(plan[at + 3]);
+    name_field(r.name);
+    field(r.job);
+    field(r.start.0);
+    field(r.length.0);
     io::write_all(1, b"\n");
 }
 
@@ -83,7 +91,7 @@ pub fn slot_rows(plan: &[u32], count: usize) -> usize
 // Every field of an entry.
 pub fn entry_row(e: Entry) {
     io::write_all(1, b"entry,");
-    field(e.stream);
+    name_field(e.name);
     field(e.kind);
     field(e.parts);
     field(e.period.0);
@@ -98,9 +106,11 @@ pub fn entry_row(e: Entry) {
 }
 
 pub fn open(units: u32) -> Opening
-    ensures { λ r. ⌜ (openNumber (r .answer) ≡ openAnswer units) × (r .table ≡ cond (eqb (openAnswer units) 0) (opened units) noTable) ⌝ }
+    ensures { λ r. let s = setting units in
+        ⌜ (openNumber (r .answer) ≡ openAnswer s) × (r .table ≡ cond (eqb (openAnswer s) 0) (opened s) noTable) ⌝ }
 {
-    let o = call_open::open(units);
+    let s = Setting { units };
+    let o = call_open::open(s);
     let answer = o.answer;
     plain_row(b"open", call_answers::open_number(answer));
     o
@@ -108,8 +118,8 @@ pub fn open(units: u32) -> Opening
 
 // An opening that succeeds.
 pub fn table_of(units: u32) -> Table
-    requires { ⌜ within 1 1000 units ≡ true ⌝ }
-    ensures is { λ r. ⌜ r ≡ opened units ⌝ }
+    requires { ⌜ Succeeds (setting units) ⌝ }
+    ensures is { λ r. ⌜ r ≡ opened (setting units) ⌝ }
     ensures formed { λ r. ⌜ WellFormed r ⌝ }
 {
     let o = open(units);
@@ -121,30 +131,33 @@ pub fn offer(t: Table, stream: u32, kind: u32, period: u32, min: u32, max: u32, 
     ensures is { λ r. ⌜ r ≡ offered t (request stream kind period min max life) ⌝ }
     ensures formed { λ r. ⌜ WellFormed r ⌝ }
 {
-    let o = call_offer::offer(t, stream, kind, period, min, max, life);
+    let name = Name { stream };
+    let o = call_offer::offer(t, name, kind, period, min, max, life);
     let answer = o.answer;
-    stream_row(b"offer", stream, call_answers::offer_number(answer));
+    name_row(b"offer", name, call_answers::offer_number(answer));
     o.table
 }
 
 pub fn withdraw(t: Table, stream: u32) -> Table
     requires { ⌜ WellFormed t ⌝ }
-    ensures is { λ r. ⌜ r ≡ withdrawn t stream ⌝ }
+    ensures is { λ r. ⌜ r ≡ withdrawn t (named stream) ⌝ }
     ensures formed { λ r. ⌜ WellFormed r ⌝ }
 {
-    let w = call_held::withdraw(t, stream);
+    let name = Name { stream };
+    let w = call_held::withdraw(t, name);
     let answer = w.answer;
-    stream_row(b"withdraw", stream, call_answers::held_number(answer));
+    name_row(b"withdraw", name, call_answers::held_number(answer));
     w.table
 }
 
 pub fn enquire(t: Table, stream: u32) -> Enquiry
     requires { ⌜ WellFormed t ⌝ }
-    ensures { λ r. ⌜ (heldNumber (r .answer) ≡ heldAnswer t stream) × (r .entry ≡ enquired t stream) ⌝ }
+    ensures { λ r. let n = named stream in ⌜ (heldNumber (r .answer) ≡ heldAnswer t n) × (r .entry ≡ enquired t n) ⌝ }
 {
-    let q = call_held::enquire(t, stream);
+    let name = Name { stream };
+    let q = call_held::enquire(t, name);
     let answer = q.answer;
-    stream_row(b"enquire", stream, call_answers::held_number(answer));
+    name_row(b"enquire", name, call_answers::held_number(answer));
     entry_row(q.entry);
     q
 }
@@ -180,13 +193,13 @@ pub struct Part {
 }
 
 // The answer, and every record of the part that the window hands back.
-pub fn window(plan: &[u32], count: usize, from: u32, until: u32) -> Part
-    ensures { λ r. let words = now (plan .entry) in
-        ⌜ (r .answer ≡ windowAnswer words count from until) × (r .records ≡ length (windowPart words count from until) / recordWords) ⌝ }
+pub fn window(plan: &[u32], count: usize, from: Slots, until: Slots) -> Part
+    ensures { λ r. let words = now (plan .entry) in let a = from .0 in let b = until .0 in
+        ⌜ (r .answer ≡ windowAnswer words count a b) × (r .records ≡ length (windowPart words count a b) / recordWords) ⌝ }
 {
     let mut answer: u32 = 0;
     let part = plan_window::window(plan, count, from, until, &mut answer);
     plain_row(b"window", answer);
-    let records = slot_rows(part, part.len() / 4);
+    let records = slot_rows(part, part.len() / spec_model::RECORD_WORDS);
     Part { answer, records }
 }

@@ -3,13 +3,27 @@
 ghost use Prim.Native.Nat.{_≤_};
 ghost use lib.ListN.{length};
 ghost use Rattle.spec_rules.specs.WellFormed.{WellFormed};
+use spec_model::Slots;
 use spec_model::Table;
+
+// Tables that hold nothing, of one time unit and of three.
+fn one_unit() -> Table
+    ensures { λ r. ⌜ WellFormed r ⌝ }
+{
+    demo_calls::table_of(1)
+}
+
+fn three_units() -> Table
+    ensures { λ r. ⌜ WellFormed r ⌝ }
+{
+    demo_calls::table_of(3)
+}
 
 // What case 1 offers, and cases 4 and 10 go on from.
 fn offers_of_case_1() -> Table
     ensures { λ r. ⌜ WellFormed r ⌝ }
 {
-    let t = demo_calls::table_of(1);
+    let t = one_unit();
     let t = demo_calls::offer(t, 5, 1, 2, 100, 300, 4);
     let t = demo_calls::offer(t, 7, 2, 2, 600, 1000, 4);
     demo_calls::offer(t, 9, 3, 1, 300, 0, 1)
@@ -36,7 +50,7 @@ fn case_4() {
 
 fn case_5(plan: &mut [u32]) {
     demo_calls::line(b"case 5");
-    let t = demo_calls::table_of(1);
+    let t = one_unit();
     let t = demo_calls::offer(t, 1, 2, 2, 1024, 1024, 2);
     let t = demo_calls::offer(t, 2, 2, 2, 1024, 1024, 2);
     let t = demo_calls::beacon(t, plan);
@@ -46,16 +60,16 @@ fn case_5(plan: &mut [u32]) {
 
 fn cases_6_to_8() {
     demo_calls::line(b"case 6");
-    let t = demo_calls::table_of(1);
+    let t = one_unit();
     let t = demo_calls::offer(t, 1, 1, 2, 512, 512, 1);
     demo_calls::offer(t, 2, 1, 2, 1, 1, 1);
     demo_calls::line(b"case 7");
-    let t = demo_calls::table_of(1);
+    let t = one_unit();
     demo_calls::offer(t, 1, 1, 3, 1, 1, 1);
-    let t = demo_calls::table_of(3);
+    let t = three_units();
     demo_calls::offer(t, 1, 1, 3, 1, 1, 1);
     demo_calls::line(b"case 8");
-    let t = demo_calls::table_of(1);
+    let t = one_unit();
     let t = demo_calls::offer(t, 1, 2, 2, 1, 1, 3);
     demo_calls::offer(t, 1, 2, 2, 1, 1, 4);
 }
@@ -64,16 +78,16 @@ fn cases_6_to_8() {
 // 32-bit count; two records that start together.
 fn case_9() {
     demo_calls::line(b"case 9");
-    let mut plan = [0u32; 4096];
+    let mut plan = [0u32; spec_model::PLAN_WORDS];
     let t = offers_of_case_1();
     let b = demo_calls::tick(t, &mut plan);
-    demo_calls::window(&plan, b.count, 100, 512);
-    demo_calls::window(&plan, b.count, 512, 512);
-    demo_calls::window(&plan, b.count, 513, 512);
-    demo_calls::window(&plan, 1025, 513, 512);
-    demo_calls::window(&plan, 4294967295, 100, 512);
+    demo_calls::window(&plan, b.count, Slots(100), Slots(512));
+    demo_calls::window(&plan, b.count, Slots(512), Slots(512));
+    demo_calls::window(&plan, b.count, Slots(513), Slots(512));
+    demo_calls::window(&plan, spec_model::MOST_RECORDS + 1, Slots(513), Slots(512));
+    demo_calls::window(&plan, 4294967295, Slots(100), Slots(512));
     let together = [5u32, 0, 100, 10, 7, 0, 100, 10];
-    demo_calls::window(&together, 2, 100, 512);
+    demo_calls::window(&together, 2, Slots(100), Slots(512));
 }
 
 // How many words are this one.
@@ -111,34 +125,34 @@ fn case_10_lent(lent: usize, t: Table, plan: &mut [u32]) -> Table
 
 fn case_10() {
     demo_calls::line(b"case 10");
-    let mut plan = [77777u32; 4096];
+    let mut plan = [77777u32; spec_model::PLAN_WORDS];
     let t = offers_of_case_1();
     demo_calls::enquire(t, 7);
-    let t = case_10_lent(4095, t, &mut plan);
+    let t = case_10_lent(spec_model::PLAN_WORDS - 1, t, &mut plan);
     demo_calls::enquire(t, 7);
-    let t = case_10_lent(4096, t, &mut plan);
+    let t = case_10_lent(spec_model::PLAN_WORDS, t, &mut plan);
     demo_calls::enquire(t, 7);
-    let mut clear = [77777u32; 4096];
-    let t = demo_calls::table_of(1);
-    case_10_lent(4096, t, &mut clear);
+    let mut clear = [77777u32; spec_model::PLAN_WORDS];
+    let t = one_unit();
+    case_10_lent(spec_model::PLAN_WORDS, t, &mut clear);
 }
 
 // Not the document's: the lower stream number goes first within kind 1, and kind 2 before 3 whatever their numbers are.
 fn two_of_our_own(plan: &mut [u32]) {
     demo_calls::line(b"our own: ties of kind 1");
-    let t = demo_calls::table_of(1);
+    let t = one_unit();
     let t = demo_calls::offer(t, 8, 1, 2, 200, 200, 1);
     let t = demo_calls::offer(t, 6, 1, 2, 100, 100, 1);
     demo_calls::beacon(t, plan);
     demo_calls::line(b"our own: kind 2 before 3");
-    let t = demo_calls::table_of(1);
+    let t = one_unit();
     let t = demo_calls::offer(t, 2, 3, 2, 700, 0, 2);
     let t = demo_calls::offer(t, 4, 2, 2, 800, 800, 2);
     demo_calls::beacon(t, plan);
 }
 
 fn main() {
-    let mut plan = [0u32; 4096];
+    let mut plan = [0u32; spec_model::PLAN_WORDS];
     cases_1_to_3(&mut plan);
     case_4();
     case_5(&mut plan);

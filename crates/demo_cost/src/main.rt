@@ -1,9 +1,8 @@
 // A full table of 32 requests at 15 and at 1,000 time units, and four beacons on each: `make cost` counts what the four cost, by
 // callgrind. The cost of a beacon grows with jobs, and hardly with slots.
-ghost use mathlib.Core.Bool.{true};
-ghost use mathlib.Core.Path.{_≡_};
 ghost use Prim.Native.Nat.{_≤_};
-ghost use Rattle.spec_lists.specs.Lists.{within};
+ghost use Rattle.spec_model.specs.ByNumbers.{setting};
+ghost use Rattle.spec_rules.specs.Settings.{Succeeds};
 ghost use Rattle.spec_rules.specs.WellFormed.{WellFormed};
 use spec_model::Table;
 
@@ -25,7 +24,7 @@ fn with_streams(t: Table, first: u32, kind: u32, period: u32, min: u32, max: u32
 
 // 256 jobs of kind 1, and 16 pieces.
 fn full_table(units: u32) -> Table
-    requires { ⌜ within 1 1000 units ≡ true ⌝ }
+    requires { ⌜ Succeeds (setting units) ⌝ }
     ensures { λ r. ⌜ WellFormed r ⌝ }
 {
     let empty = demo_calls::table_of(units);
@@ -46,7 +45,7 @@ fn four_beacons(t: Table, plan: &mut [u32])
 }
 
 fn main() {
-    let mut plan = [0u32; 4096];
+    let mut plan = [0u32; spec_model::PLAN_WORDS];
     let small = full_table(15);
     four_beacons(small, &mut plan);
     let large = full_table(1000);

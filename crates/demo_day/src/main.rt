@@ -2,6 +2,8 @@
 // that are due before a bell. A row is printed for each call, and for each record of some plans; the rows of the day are stored beside
 // this file, in `stdout`, and every run is held to them. An interval has 100 time units, 102,400 slots.
 ghost use Rattle.spec_rules.specs.WellFormed.{WellFormed};
+use spec_model::Intervals;
+use spec_model::Name;
 use spec_model::Request;
 use spec_model::Table;
 
@@ -12,7 +14,7 @@ fn readers(t: Table, q: Request, end: u32) -> Table
     ensures { λ r. ⌜ WellFormed r ⌝ }
 {
     let mut table = t;
-    let mut stream = q.stream;
+    let mut stream = q.name.stream;
     while stream < end {
         table = demo_calls::offer(table, stream, q.kind, q.period, q.min, q.max, q.life);
         stream += 1;
@@ -34,13 +36,13 @@ fn leavers(t: Table, first: u32, end: u32) -> Table
 }
 
 // Intervals whose plans are not printed.
-fn intervals(t: Table, count: u32, plan: &mut [u32]) -> Table
+fn intervals(t: Table, count: Intervals, plan: &mut [u32]) -> Table
     requires { ⌜ WellFormed t ⌝ }
     ensures { λ r. ⌜ WellFormed r ⌝ }
 {
     let mut table = t;
     let mut i = 0;
-    while i < count {
+    while i < count.0 {
         let b = demo_calls::tick(table, plan);
         table = b.table;
         i += 1;
@@ -66,7 +68,7 @@ fn first_lesson(t: Table, plan: &mut [u32]) -> Table
 {
     demo_calls::line(b"lesson 1");
     let all = Request {
-        stream: 1,
+        name: Name { stream: 1 },
         kind: 1,
         period: 4,
         min: 200,
@@ -77,9 +79,9 @@ fn first_lesson(t: Table, plan: &mut [u32]) -> Table
     let t = demo_calls::offer(t, 101, 3, 4, 250000, 0, 4);
     let t = demo_calls::offer(t, 102, 3, 2, 60000, 0, 2);
     let t = demo_calls::offer(t, 103, 3, 3, 1000, 0, 3);
-    let t = intervals(t, 2, plan);
+    let t = intervals(t, Intervals(2), plan);
     let t = demo_calls::offer(t, 103, 3, 2, 1000, 0, 2);
-    intervals(t, 2, plan)
+    intervals(t, Intervals(2), plan)
 }
 
 // Four read in fractions of the interval, and four send pages over two intervals each.
@@ -89,7 +91,7 @@ fn second_lesson(t: Table, plan: &mut [u32]) -> Table
 {
     demo_calls::line(b"lesson 2");
     let aloud = Request {
-        stream: 1,
+        name: Name { stream: 1 },
         kind: 1,
         period: 2,
         min: 5000,
@@ -98,7 +100,7 @@ fn second_lesson(t: Table, plan: &mut [u32]) -> Table
     };
     let t = readers(t, aloud, 5);
     let pages = Request {
-        stream: 5,
+        name: Name { stream: 5 },
         kind: 2,
         period: 2,
         min: 20000,
@@ -110,7 +112,7 @@ fn second_lesson(t: Table, plan: &mut [u32]) -> Table
     demo_calls::enquire(t, 5);
     let t = demo_calls::beacon(t, plan);
     demo_calls::enquire(t, 5);
-    intervals(t, 2, plan)
+    intervals(t, Intervals(2), plan)
 }
 
 // Offers with a field outside its range, and streams that are or are not held.
@@ -139,7 +141,7 @@ fn third_lesson(t: Table, plan: &mut [u32]) -> Table
     let t = demo_calls::beacon(t, plan);
     let t = demo_calls::withdraw(t, 12);
     let t = demo_calls::beacon(t, plan);
-    intervals(t, 1, plan)
+    intervals(t, Intervals(1), plan)
 }
 
 // Loans take all that the readers leave, to the last slot; one slot more has no time.
@@ -149,7 +151,7 @@ fn fourth_lesson(t: Table, plan: &mut [u32]) -> Table
 {
     demo_calls::line(b"lesson 4");
     let aloud = Request {
-        stream: 21,
+        name: Name { stream: 21 },
         kind: 1,
         period: 2,
         min: 10000,
@@ -174,7 +176,7 @@ fn fifth_lesson(t: Table, plan: &mut [u32]) -> Table
     demo_calls::line(b"lesson 5");
     let t = demo_calls::offer(t, 24, 2, 2, 102400, 102400, 4);
     let t = demo_calls::offer(t, 25, 2, 2, 102400, 102400, 4);
-    let t = intervals(t, 1, plan);
+    let t = intervals(t, Intervals(1), plan);
     let t = demo_calls::withdraw(t, 24);
     demo_calls::enquire(t, 25);
     let t = demo_calls::offer(t, 26, 2, 1, 1, 1, 1);
@@ -189,7 +191,7 @@ fn sixth_lesson(t: Table, plan: &mut [u32]) -> Table
 {
     demo_calls::line(b"lesson 6");
     let all = Request {
-        stream: 1,
+        name: Name { stream: 1 },
         kind: 2,
         period: 1,
         min: 2000,
@@ -197,18 +199,25 @@ fn sixth_lesson(t: Table, plan: &mut [u32]) -> Table
         life: 8,
     };
     let t = readers(t, all, 31);
-    let t = intervals(t, 3, plan);
+    let t = intervals(t, Intervals(3), plan);
     let t = leavers(t, 3, 31);
     let t = demo_calls::beacon(t, plan);
     let t = leavers(t, 1, 4);
     demo_calls::beacon(t, plan)
 }
 
+// A table that holds nothing, with intervals of 100 time units.
+fn opened() -> Table
+    ensures { λ r. ⌜ WellFormed r ⌝ }
+{
+    demo_calls::table_of(100)
+}
+
 fn main() {
     demo_calls::open(0);
     demo_calls::open(1001);
-    let mut plan = [0u32; 4096];
-    let t = demo_calls::table_of(100);
+    let mut plan = [0u32; spec_model::PLAN_WORDS];
+    let t = opened();
     let t = first_lesson(t, &mut plan);
     let t = second_lesson(t, &mut plan);
     let t = third_lesson(t, &mut plan);

@@ -3,7 +3,6 @@
 -- in no list. Assumes nothing.
 use Prim.Native.Nat.{ℕ, zero, suc, _+_, _*_, _<_, _≤_}
 use mathlib.Core.Path.{_≡_, refl, sym, ap, _∙_}
-use mathlib.Core.Logic.{_⊎_, inl, inr}
 use mathlib.Core.Bool.{Bool, true, false, cond, _&&_}
 use mathlib.Core.List.{List, [], _∷_, _++_}
 use native.Mathlib.Omega.{arith}
@@ -11,24 +10,22 @@ use lib.Dec.{eqb, ltb}
 use lib.ListN.{length, getD, take, drop, length-take}
 use lib.Seq.{take-at}
 use borrow.Author.Tests.{lt-ltb, le-ltb, eqb-true}
-use Rattle.spec_lists.specs.Lists.{within, sameList}
-use Rattle.base_lists.specs.Tests.{either, and-both, same-list}
-use Rattle.spec_model.specs.Requests.{refusal}
+use Rattle.spec_lists.specs.Lists.{sameList}
+use Rattle.base_lists.specs.Tests.{and-both, same-list}
 use Rattle.spec_model.specs.declared.Request.{Request}
 use Rattle.spec_model.specs.declared.Table.{Table}
 use Rattle.spec_rules.specs.Share.{order}
 use Rattle.spec_rules.specs.Slots.{Run, tieOrder, jobs, choose, slotsFrom, stepD, prepend, runsFrom, stepE}
-use Rattle.spec_rules.specs.Calls.{openAnswer, opened, offerAnswer, offered}
-use Rattle.spec_rules.specs.Calls.{wordsOf, planOf, advanced, Beacon, refusedBeacon, plannedBeacon, beacon}
+use Rattle.spec_rules.specs.Settings.{frameOf, opened}
+use Rattle.spec_rules.specs.Records.{recordWords, planWords, wordsOf}
+use Rattle.spec_rules.specs.Calls.{offerAnswer, offered, planOf, advanced, Beacon, refusedBeacon, plannedBeacon, beacon}
 use Rattle.spec_rules.specs.Reading.{windowAnswer, windowPart}
 use Rattle.spec_rules.specs.Cases.{State, Line, Tick, Window, reply, plays, start, cases, cases-right}
 use Rattle.spec_rules.specs.Cases.{offers1, case1, cases23, case4, case5, case6, case7, case8, case9, tiesOfKind1}
-use Rattle.spec_rules.specs.WellFormed.{WellFormed}
-use Rattle.law_ahead.specs.Formed.{opened-formed}
-use Rattle.beacon_plan.specs.Pens.{length-words}
-use Rattle.spec_model.specs.Six.{request}
+use Rattle.law_model.specs.Records.{length-words}
+use Rattle.spec_model.specs.ByNumbers.{setting, request}
 use Rattle.demo_expected.specs.Windows.{answer-alone, part-alone}
-use Rattle.demo_expected.specs.Words.{rows, row-count}
+use Rattle.demo_expected.specs.Words.{rows, recordsIn, rows-all, row-count}
 
 -- ---- one line
 pub record Told (s : State) (l : Line) : Type 0 where
@@ -95,45 +92,39 @@ table1 = after start offers1 .table
 abbrev pub asked : List ℕ → Request
 asked q = request (getD q 0 0) (getD q 1 0) (getD q 2 0) (getD q 3 0) (getD q 4 0) (getD q 5 0)
 
+abbrev pub oneUnit : Table
+oneUnit = opened (setting 1)
+
 abbrev oneHeld : List ℕ → Table
-oneHeld p = offered (opened 1) (asked p)
+oneHeld p = offered oneUnit (asked p)
 
 abbrev pub twoHeld : (p q : List ℕ) → Table
 twoHeld p q = offered (oneHeld p) (asked q)
 
 -- both are taken, and the plan is these records
 pub record PlanOfTwo (p q : List ℕ) (rs : List (List ℕ)) : Type 0 where
-  pub first : offerAnswer (opened 1) (asked p) ≡ 0
+  pub first : offerAnswer oneUnit (asked p) ≡ 0
   pub second : offerAnswer (oneHeld p) (asked q) ≡ 0
-  pub plan : rows (wordsOf (planOf (twoHeld p q))) ≡ rs
-
--- ---- an opening that answers 0
-pub open-formed : (u : ℕ) → openAnswer u ≡ 0 → WellFormed (opened u)
-unfolding openAnswer refusal
-open-formed u h = go (either (within 1 1000 u))
-  where
-    go : (within 1 1000 u ≡ true) ⊎ (within 1 1000 u ≡ false) → WellFormed (opened u)
-    go (inl y) = opened-formed u y
-    go (inr n) = let z : _≡_ {A = ℕ} 1 0 = rw n at h in absurd (omega arith)
+  pub plan : recordsIn (planOf (twoHeld p q)) ≡ rs
 
 -- ---- a beacon
 -- where fewer words are lent
-pub short-beacon : (t : Table) (n : ℕ) (ws : List ℕ) → n < 4096 → beacon t (take n ws) ≡ refusedBeacon t (take n ws)
+pub short-beacon : (t : Table) (n : ℕ) (ws : List ℕ) → n < planWords → beacon t (take n ws) ≡ refusedBeacon t (take n ws)
 unfolding beacon
 short-beacon t n ws h =
     let l = length-take n ws in
-    rw (lt-ltb (length (take n ws)) 4096 (omega arith))
+    rw (lt-ltb (length (take n ws)) planWords (omega arith))
 
 -- where rs are the plan's records
-pub long-beacon : (t : Table) (ws : List ℕ) {rs : List (List ℕ)} → 4096 ≤ length ws → rows (wordsOf (planOf t)) ≡ rs
-    → beacon t ws ≡ record { answer = 0; count = length rs; words = wordsOf (planOf t) ++ drop (4 * length rs) ws; table = advanced t }
+pub long-beacon : (t : Table) (ws : List ℕ) {rs : List (List ℕ)} → planWords ≤ length ws → recordsIn (planOf t) ≡ rs
+    → beacon t ws ≡ record { answer = 0; count = length rs; words = wordsOf (planOf t) ++ drop (recordWords * length rs) ws; table = advanced t }
 unfolding beacon
-long-beacon t ws h e = rw (le-ltb (length ws) 4096 h, row-count (planOf t) e)
+long-beacon t ws h e = rw (le-ltb (length ws) planWords h, row-count (planOf t) e)
 
 -- one that answers 0 has written the plan, and the table is one interval on
 planned : (t : Table) (ws : List ℕ) → beacon t ws .answer ≡ 0 → beacon t ws ≡ plannedBeacon t ws (planOf t)
 unfolding beacon
-planned t ws = go (ltb (length ws) 4096)
+planned t ws = go (ltb (length ws) planWords)
   where
     go : (x : Bool) → (let b = cond x (refusedBeacon t ws) (plannedBeacon t ws (planOf t)) in
         b .answer ≡ 0 → b ≡ plannedBeacon t ws (planOf t))
@@ -148,8 +139,8 @@ module _ {s : State} {l : List ℕ} (p : Told s (record { ask = Tick; answer = 0
   words-told =
       sym (take-at (wordsOf runs) _ _ (length-words runs)) ∙ rw (planned (s .table) (s .words) (p .answer)) at (p .shown)
 
-  pub plan-told : (rows (wordsOf runs) ≡ rows l) × (beacon (s .table) (s .words) .table ≡ advanced (s .table))
-  plan-told = (ap rows words-told, ap (λ (b : Beacon). b .table) (planned (s .table) (s .words) (p .answer)))
+  pub plan-told : (recordsIn runs ≡ rows l) × (beacon (s .table) (s .words) .table ≡ advanced (s .table))
+  plan-told = (rows-all runs words-told, ap (λ (b : Beacon). b .table) (planned (s .table) (s .words) (p .answer)))
 
   -- a window over words that are that plan's and then others
   pub window-told : {from until n : ℕ} {part : List ℕ}
@@ -158,13 +149,13 @@ module _ {s : State} {l : List ℕ} (p : Told s (record { ask = Tick; answer = 0
       → (windowAnswer plan (length (rows l)) from until ≡ n) × (windowPart plan (length (rows l)) from until ≡ part)
   window-told {from} {until} w ws e =
       let b = planned (s .table) (s .words) (p .answer) in
-      let old = drop (4 * length runs) (s .words) in
-      let n = row-count runs (ap rows words-told) in (
+      let old = drop (recordWords * length runs) (s .words) in
+      let n = row-count runs (rows-all runs words-told) in (
         rw (e, n, answer-alone runs ws from until, ← answer-alone runs old from until) (rw b at (w .answer)),
         rw (e, n, part-alone runs ws from until, ← part-alone runs old from until) (rw b at (w .shown)),
       )
 
 -- a table that holds nothing has an empty plan
-pub nothing-planned : rows (wordsOf (planOf (opened 1))) ≡ []
-unfolding order tieOrder jobs choose slotsFrom stepD prepend runsFrom stepE opened wordsOf planOf
+pub nothing-planned : recordsIn (planOf oneUnit) ≡ []
+unfolding order tieOrder jobs choose slotsFrom stepD prepend runsFrom stepE frameOf opened planOf
 nothing-planned = refl

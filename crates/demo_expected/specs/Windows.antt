@@ -1,8 +1,8 @@
 -- A window looks at the plan's records alone: the words after them change neither its answer nor its part. Assumes nothing.
 use Prim.Native.Nat.{ℕ, _*_, _-_, _≤_}
-use mathlib.Core.Path.{_≡_, refl, ap, _∙_}
+use mathlib.Core.Path.{_≡_, refl, sym, ap, _∙_}
 use mathlib.Core.Logic.{⊎-elim}
-use mathlib.Core.List.{List, [], _∷_, _++_}
+use mathlib.Core.List.{List, [], _++_, map, append-nil}
 use native.Mathlib.Omega.{arith}
 use lib.Dec.{eqb}
 use lib.ListN.{length, take, drop, length-append, length-drop}
@@ -10,15 +10,16 @@ use lib.Seq.{take-append-le, drop-append-le}
 use borrow.Author.Tests.{le-ltb, eqb-true}
 use Rattle.base_lists.specs.Tests.{either}
 use Rattle.spec_rules.specs.Slots.{Run}
-use Rattle.spec_rules.specs.Calls.{recordWords, wordsOf}
+use Rattle.spec_rules.specs.Records.{recordWords, wordsOf, recordsOf}
 use Rattle.spec_rules.specs.Reading.{startsOf, windowAnswer, windowPart}
-use Rattle.beacon_plan.specs.Pens.{length-words}
+use Rattle.law_model.specs.Records.{length-words, records-back}
 use Rattle.plan_window.specs.Laws.{window-ends}
 
 starts-alone : (rs : List Run) (ws : List ℕ) → startsOf (length rs) (wordsOf rs ++ ws) ≡ startsOf (length rs) (wordsOf rs)
-unfolding startsOf wordsOf
-starts-alone [] ws = refl
-starts-alone (r ∷ rs) ws = ap (r .start ∷_) (starts-alone rs ws)
+unfolding startsOf
+starts-alone rs ws =
+    ap (map (λ (r : Run). r .start))
+    (records-back rs ws ∙ sym (ap (recordsOf (length rs)) (sym (append-nil (wordsOf rs))) ∙ records-back rs []))
 
 module _ (rs : List Run) (ws : List ℕ) (from until : ℕ) where
   pub answer-alone : windowAnswer (wordsOf rs ++ ws) (length rs) from until ≡ windowAnswer (wordsOf rs) (length rs) from until

@@ -1,21 +1,32 @@
 // Cases 1 to 10 of document 01, "Tested by hand", and two of our own, on the proved calls and the proved window. Every answer, every record
 // count, every word of a plan and every word of a window's part that the document names is held to it by `check::expect`, which asks for a
 // proof that its test passes. So is the header, which is written and read back.
-ghost use Prim.Native.Nat.{_*_, _≤_};
+ghost use Prim.Native.Nat.{_*_, _-_, _≤_};
 ghost use mathlib.Core.Path.{_≡_};
 ghost use mathlib.Core.List.{_++_};
 ghost use lib.ListN.{length, drop};
 ghost use Rattle.spec_lists.specs.Lists.{sameList};
 ghost use Rattle.spec_shelf.specs.Printed.{headerMost, headerRow, written};
-ghost use Rattle.spec_rules.specs.Calls.{openAnswer, opened, offerAnswer, offered, heldAnswer, withdrawn, wordsOf, planOf, advanced};
+ghost use Rattle.spec_rules.specs.Calls.{offerAnswer, offered, heldAnswer, withdrawn, planOf, advanced};
+ghost use Rattle.spec_rules.specs.Records.{recordWords, planWords, wordsOf};
+ghost use Rattle.spec_rules.specs.Settings.{Succeeds, opened};
 ghost use Rattle.spec_rules.specs.Reading.{windowAnswer, windowPart};
 ghost use Rattle.spec_rules.specs.WellFormed.{WellFormed};
 ghost use Rattle.spec_model.specs.Numbers.{beaconNumber};
-ghost use Rattle.spec_model.specs.Six.{request};
+ghost use Rattle.spec_model.specs.ByNumbers.{stream as named, setting, request};
 ghost use Rattle.demo_expected.specs.Said.{table1, asked, twoHeld, PlanOfTwo};
-ghost use Rattle.demo_expected.specs.Words.{rows, Begins, Records, Each};
+ghost use Rattle.demo_expected.specs.Words.{recordsIn, Begins, Records, Each};
 use call_beacon::Beaconing;
+use spec_model::Name;
+use spec_model::Setting;
+use spec_model::Slots;
 use spec_model::Table;
+
+// A word fewer than a plan needs.
+const SHORT_WORDS: usize = spec_model::PLAN_WORDS - 1;
+
+// The words of case 1's plan, of five records.
+const CASE_1_WORDS: usize = spec_model::RECORD_WORDS * 5;
 
 // ---- the header
 // Compared as a byte string, as verbs are.
@@ -46,12 +57,12 @@ fn expect_words(words: &[u32], first: &[u32])
     }
 }
 
-fn expect_records(plan: &[u32], records: &[[u32; 4]])
+fn expect_records(plan: &[u32], records: &[[u32; spec_model::RECORD_WORDS]])
     requires { ⌜ Records (now plan) (now records) ⌝ }
 {
     let mut i = 0;
     while i < records.len() {
-        expect_words(&plan[4 * i..], &records[i]);
+        expect_words(&plan[spec_model::RECORD_WORDS * i..], &records[i]);
         i += 1;
     }
 }
@@ -68,11 +79,12 @@ fn expect_each(words: &[u32], word: u32)
 
 // ---- the calls, each with the answer that is expected
 fn open(units: u32) -> Table
-    requires { ⌜ openAnswer units ≡ 0 ⌝ }
-    ensures is { λ r. ⌜ r ≡ opened units ⌝ }
+    requires { ⌜ Succeeds (setting units) ⌝ }
+    ensures is { λ r. ⌜ r ≡ opened (setting units) ⌝ }
     ensures formed { λ r. ⌜ WellFormed r ⌝ }
 {
-    let o = call_open::open(units);
+    let s = Setting { units };
+    let o = call_open::open(s);
     let answer = o.answer;
     check::expect(call_answers::open_number(answer) == 0);
     o.table
@@ -93,7 +105,8 @@ fn offer(
     ensures is { λ r. ⌜ r ≡ offered t (request stream kind period min max life) ⌝ }
     ensures formed { λ r. ⌜ WellFormed r ⌝ }
 {
-    let o = call_offer::offer(t, stream, kind, period, min, max, life);
+    let name = Name { stream };
+    let o = call_offer::offer(t, name, kind, period, min, max, life);
     let answer = o.answer;
     check::expect(call_answers::offer_number(answer) == expected);
     o.table
@@ -111,11 +124,12 @@ fn taken(t: Table, q: [u32; 6]) -> Table
 
 fn withdraw(t: Table, stream: u32) -> Table
     requires { ⌜ WellFormed t ⌝ }
-    requires { ⌜ heldAnswer t stream ≡ 0 ⌝ }
-    ensures is { λ r. ⌜ r ≡ withdrawn t stream ⌝ }
+    requires { ⌜ heldAnswer t (named stream) ≡ 0 ⌝ }
+    ensures is { λ r. ⌜ r ≡ withdrawn t (named stream) ⌝ }
     ensures formed { λ r. ⌜ WellFormed r ⌝ }
 {
-    let w = call_held::withdraw(t, stream);
+    let name = Name { stream };
+    let w = call_held::withdraw(t, name);
     let answer = w.answer;
     check::expect(call_answers::held_number(answer) == 0);
     w.table
@@ -131,14 +145,14 @@ fn expect_beacon(b: Beaconing, expected: u32, count: usize)
 }
 
 // The plan is these records, each with its stream, job, start and length.
-fn beacon(t: Table, plan: &mut [u32], records: &[[u32; 4]]) -> Table
+fn beacon(t: Table, plan: &mut [u32], records: &[[u32; spec_model::RECORD_WORDS]]) -> Table
     requires { ⌜ WellFormed t ⌝ }
-    requires { ⌜ 4096 ≤ length (now plan) ⌝ }
-    requires { ⌜ rows (wordsOf (planOf t)) ≡ now records ⌝ }
+    requires { ⌜ planWords ≤ length (now plan) ⌝ }
+    requires { ⌜ recordsIn (planOf t) ≡ now records ⌝ }
     ensures is { λ r. ⌜ r ≡ advanced t ⌝ }
     ensures formed { λ r. ⌜ WellFormed r ⌝ }
     ensures words { λ r.
-        ⌜ now (plan .exit) ≡ wordsOf (planOf t) ++ drop (4 * length (now (records .entry))) (now (plan .entry)) ⌝ }
+        ⌜ now (plan .exit) ≡ wordsOf (planOf t) ++ drop (recordWords * length (now (records .entry))) (now (plan .entry)) ⌝ }
 {
     let b = call_beacon::beacon(t, plan);
     expect_beacon(b, 0, records.len());
@@ -147,14 +161,19 @@ fn beacon(t: Table, plan: &mut [u32], records: &[[u32; 4]]) -> Table
 }
 
 // The first beacon of a table of one time unit that takes two requests, offered in this order.
-fn plan_of_two(first: [u32; 6], second: [u32; 6], plan: &mut [u32], records: &[[u32; 4]]) -> Table
-    requires { ⌜ 4096 ≤ length (now plan) ⌝ }
+fn plan_of_two(
+    first: [u32; 6],
+    second: [u32; 6],
+    plan: &mut [u32],
+    records: &[[u32; spec_model::RECORD_WORDS]],
+) -> Table
+    requires { ⌜ planWords ≤ length (now plan) ⌝ }
     requires { ⌜ PlanOfTwo first second (now records) ⌝ }
     ensures is { λ r. ⌜ r ≡ advanced (twoHeld first second) ⌝ }
     ensures formed { λ r. ⌜ WellFormed r ⌝ }
     ensures words { λ r.
         ⌜ now (plan .exit) ≡ wordsOf (planOf (twoHeld first second))
-        ++ drop (4 * length (now (records .entry))) (now (plan .entry)) ⌝ }
+        ++ drop (recordWords * length (now (records .entry))) (now (plan .entry)) ⌝ }
 {
     let t = open(1);
     let t = taken(t, first);
@@ -162,23 +181,30 @@ fn plan_of_two(first: [u32; 6], second: [u32; 6], plan: &mut [u32], records: &[[
     beacon(t, plan, records)
 }
 
-// With 4,095 words of the plan's memory lent: refused, nothing changes.
+// With a word too few of the plan's memory lent: refused, nothing changes.
 fn refused_beacon(t: Table, plan: &mut [u32]) -> Table
     requires { ⌜ WellFormed t ⌝ }
-    requires { ⌜ 4095 ≤ length (now plan) ⌝ }
+    requires { ⌜ planWords - 1 ≤ length (now plan) ⌝ }
     ensures is { λ r. ⌜ r ≡ t ⌝ }
     ensures formed { λ r. ⌜ WellFormed r ⌝ }
     ensures words { λ r. ⌜ now (plan .exit) ≡ now (plan .entry) ⌝ }
 {
-    let b = call_beacon::beacon(t, &mut plan[..4095]);
+    let b = call_beacon::beacon(t, &mut plan[..SHORT_WORDS]);
     expect_beacon(b, 30, 0);
     b.table
 }
 
 // The part is these words, no more and no fewer. The word lent for the answer is at first none that a window gives.
-fn expect_window(plan: &[u32], count: usize, from: u32, until: u32, expected: u32, words: &[u32])
-    requires { ⌜ windowAnswer (now plan) count from until ≡ expected ⌝ }
-    requires { ⌜ windowPart (now plan) count from until ≡ now words ⌝ }
+fn expect_window(
+    plan: &[u32],
+    count: usize,
+    from: Slots,
+    until: Slots,
+    expected: u32,
+    words: &[u32],
+)
+    requires { ⌜ windowAnswer (now plan) count (from .0) (until .0) ≡ expected ⌝ }
+    requires { ⌜ windowPart (now plan) count (from .0) (until .0) ≡ now words ⌝ }
 {
     let mut answer: u32 = 77777;
     let part = plan_window::window(plan, count, from, until, &mut answer);
@@ -202,10 +228,10 @@ fn offers_of_case_1() -> Table
 fn beacon_of_case_1(t: Table, plan: &mut [u32]) -> Table
     requires { ⌜ t ≡ table1 ⌝ }
     requires { ⌜ WellFormed t ⌝ }
-    requires { ⌜ 4096 ≤ length (now plan) ⌝ }
+    requires { ⌜ planWords ≤ length (now plan) ⌝ }
     ensures is { λ r. ⌜ r ≡ advanced table1 ⌝ }
     ensures formed { λ r. ⌜ WellFormed r ⌝ }
-    ensures words { λ r. ⌜ now (plan .exit) ≡ wordsOf (planOf table1) ++ drop 20 (now (plan .entry)) ⌝ }
+    ensures words { λ r. ⌜ now (plan .exit) ≡ wordsOf (planOf table1) ++ drop (recordWords * 5) (now (plan .entry)) ⌝ }
 {
     let records = [
         [5u32, 0, 0, 100],
@@ -218,7 +244,7 @@ fn beacon_of_case_1(t: Table, plan: &mut [u32]) -> Table
 }
 
 fn cases_1_to_3(plan: &mut [u32])
-    requires { ⌜ 4096 ≤ length (now plan) ⌝ }
+    requires { ⌜ planWords ≤ length (now plan) ⌝ }
 {
     let t = offers_of_case_1();
     let t = beacon_of_case_1(t, plan);
@@ -247,7 +273,7 @@ fn case_4() {
 }
 
 fn case_5(plan: &mut [u32])
-    requires { ⌜ 4096 ≤ length (now plan) ⌝ }
+    requires { ⌜ planWords ≤ length (now plan) ⌝ }
 {
     let records = [[1u32, 0, 0, 1024]];
     let t = plan_of_two(
@@ -281,31 +307,38 @@ fn case_8() {
 
 // The plan has five records.
 fn case_9(plan: &mut [u32])
-    requires { ⌜ 4096 ≤ length (now plan) ⌝ }
+    requires { ⌜ planWords ≤ length (now plan) ⌝ }
 {
     let t = offers_of_case_1();
     beacon_of_case_1(t, plan);
-    expect_window(plan, 5, 100, 512, 0, &[9, 0, 100, 300, 7, 0, 400, 112]);
-    expect_window(plan, 5, 512, 512, 0, &[]);
-    expect_window(plan, 5, 513, 512, 41, &[]);
+    expect_window(
+        plan,
+        5,
+        Slots(100),
+        Slots(512),
+        0,
+        &[9, 0, 100, 300, 7, 0, 400, 112],
+    );
+    expect_window(plan, 5, Slots(512), Slots(512), 0, &[]);
+    expect_window(plan, 5, Slots(513), Slots(512), 41, &[]);
 }
 
-// Refused at 4,095 words, the table and every word are as before: at 4,096 the same table gives the plan of case 1, and the words after it
-// stay. The memory is all 77,777, a number that the plan does not have.
+// Refused with a word too few, the table and every word are as before: with it the same table gives the plan of case 1, and the words
+// after it stay. The memory is all 77,777, a number that the plan does not have.
 fn case_10(plan: &mut [u32])
-    requires { ⌜ length (now plan) ≡ 4096 ⌝ }
+    requires { ⌜ length (now plan) ≡ planWords ⌝ }
     requires { ⌜ Each 77777 (now plan) ⌝ }
 {
     let t = offers_of_case_1();
     let t = refused_beacon(t, plan);
     expect_each(plan, 77777);
     beacon_of_case_1(t, plan);
-    expect_each(&plan[20..], 77777);
+    expect_each(&plan[CASE_1_WORDS..], 77777);
 }
 
 // Of a table that holds nothing.
 fn case_10_empty(plan: &mut [u32])
-    requires { ⌜ 4096 ≤ length (now plan) ⌝ }
+    requires { ⌜ planWords ≤ length (now plan) ⌝ }
 {
     let t = open(1);
     beacon(t, plan, &[]);
@@ -314,7 +347,7 @@ fn case_10_empty(plan: &mut [u32])
 // Not the document's. Of two jobs of kind 1 due at once the lower stream number goes first, though it was offered later. With as many
 // intervals left a whole stream goes before a transfer, though the transfer has the lower stream number.
 fn two_of_our_own(plan: &mut [u32])
-    requires { ⌜ 4096 ≤ length (now plan) ⌝ }
+    requires { ⌜ planWords ≤ length (now plan) ⌝ }
 {
     let ties = [
         [6u32, 0, 0, 100],
@@ -330,7 +363,7 @@ fn two_of_our_own(plan: &mut [u32])
 fn main() {
     let mut row = [0u8; 64];
     expect_header(&mut row);
-    let mut plan = [0u32; 4096];
+    let mut plan = [0u32; spec_model::PLAN_WORDS];
     cases_1_to_3(&mut plan);
     case_4();
     case_5(&mut plan);
@@ -338,7 +371,7 @@ fn main() {
     case_7();
     case_8();
     case_9(&mut plan);
-    let mut lent = [77777u32; 4096];
+    let mut lent = [77777u32; spec_model::PLAN_WORDS];
     case_10(&mut lent);
     case_10_empty(&mut plan);
     two_of_our_own(&mut plan);

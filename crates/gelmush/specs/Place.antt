@@ -9,7 +9,7 @@ use lib.ListN.{length, take, drop, length-drop}
 use lib.Seq.{length-take-le}
 use borrow.Author.Tests.{le-ltb}
 use Rattle.base_lists.specs.Tests.{cond-zero}
-use Rattle.spec_rules.specs.Calls.{recordWords}
+use Rattle.spec_rules.specs.Records.{recordWords}
 use Rattle.spec_rules.specs.Reading.{before, windowAnswer, windowPart}
 use Rattle.plan_window.specs.declared.Bounds.{Bounds}
 use Rattle.plan_window.specs.Laws.{window-tests, window-none}

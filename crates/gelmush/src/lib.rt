@@ -6,12 +6,16 @@ ghost use mathlib.Core.Bool.{cond};
 ghost use mathlib.Core.Path.{_≡_};
 ghost use lib.Dec.{eqb};
 ghost use lib.ListN.{length, take, drop};
-ghost use Rattle.spec_rules.specs.Calls.{openAnswer, opened, offerAnswer, offered, heldAnswer, withdrawn, beacon};
+ghost use Rattle.spec_rules.specs.Calls.{offerAnswer, offered, heldAnswer, withdrawn, beacon};
 ghost use Rattle.spec_rules.specs.Reading.{enquired, windowAnswer, windowPart};
+ghost use Rattle.spec_rules.specs.Settings.{openAnswer, opened};
 ghost use Rattle.spec_rules.specs.WellFormed.{WellFormed};
-ghost use Rattle.spec_model.specs.Six.{request};
+ghost use Rattle.spec_model.specs.ByNumbers.{stream as named, setting, request};
 use spec_model::Entry;
+use spec_model::Name;
 use spec_model::Request;
+use spec_model::Setting;
+use spec_model::Slots;
 use spec_model::Table;
 
 // ---- what the calls give back
@@ -58,8 +62,9 @@ pub extern "C" fn gelmush_offer(
     ensures { λ r. let t = now (table .entry) in let q = request stream kind period min max life in
         ⌜ (r ≡ offerAnswer t q) × (now (table .exit) ≡ offered t q) ⌝ }
 {
+    let name = Name { stream };
     let q = Request {
-        stream,
+        name,
         kind,
         period,
         min,
@@ -69,8 +74,8 @@ pub extern "C" fn gelmush_offer(
     let d = call_offer::decide(*table, q);
     let place = d.place;
     let entry = d.entry;
-    // A refused offer puts nothing in the table: place 32 stands for none.
-    if place < 32 {
+    // A refused offer puts nothing in the table: it has no place there.
+    if place < spec_model::PLACES {
         table.entries[place] = entry;
     }
     let answer = d.answer;
@@ -80,10 +85,11 @@ pub extern "C" fn gelmush_offer(
 #[no_mangle]
 pub extern "C" fn gelmush_withdraw(table: &mut Table, stream: u32) -> u32
     requires { ⌜ WellFormed (now table) ⌝ }
-    ensures { λ r. let t = now (table .entry) in ⌜ (r ≡ heldAnswer t stream) × (now (table .exit) ≡ withdrawn t stream) ⌝ }
+    ensures { λ r. let t = now (table .entry) in let n = named stream in ⌜ (r ≡ heldAnswer t n) × (now (table .exit) ≡ withdrawn t n) ⌝ }
 {
-    let at = table_places::place_in(table, stream);
-    if at < 32 {
+    let name = Name { stream };
+    let at = table_places::place_in(table, name);
+    if at < spec_model::PLACES {
         let free = spec_model::free_entry();
         table.entries[at] = free;
         return call_answers::DONE;
@@ -94,22 +100,27 @@ pub extern "C" fn gelmush_withdraw(table: &mut Table, stream: u32) -> u32
 // Asks nothing of what lies in the table's place. Refused, it lies there still.
 #[no_mangle]
 pub extern "C" fn gelmush_open(table: &mut Table, units: u32) -> u32
-    ensures { λ r. let a = openAnswer units in ⌜ (r ≡ a) × (now (table .exit) ≡ cond (eqb a 0) (opened units) (now (table .entry))) ⌝ }
+    ensures { λ r. let s = setting units in let a = openAnswer s in
+        ⌜ (r ≡ a) × (now (table .exit) ≡ cond (eqb a 0) (opened s) (now (table .entry))) ⌝ }
 {
-    if base_numbers::is_within(1, 1000, units) {
-        *table = call_open::empty_table(1024 * units);
-        return call_answers::DONE;
+    let s = Setting { units };
+    let answer = call_open::open_answer(s);
+    let number = call_answers::open_number(answer);
+    if number != call_answers::DONE {
+        return number;
     }
-    call_answers::UNITS_OUTSIDE
+    *table = call_open::opened_table(s);
+    number
 }
 
 #[no_mangle]
 pub extern "C" fn gelmush_enquire(table: &Table, stream: u32) -> Found
     requires { ⌜ WellFormed (now table) ⌝ }
-    ensures { λ r. let t = now (table .entry) in ⌜ (r .answer ≡ heldAnswer t stream) × (r .entry ≡ enquired t stream) ⌝ }
+    ensures { λ r. let t = now (table .entry) in let n = named stream in ⌜ (r .answer ≡ heldAnswer t n) × (r .entry ≡ enquired t n) ⌝ }
 {
-    let found = table_places::place_in(table, stream);
-    if found < 32 {
+    let name = Name { stream };
+    let found = table_places::place_in(table, name);
+    if found < spec_model::PLACES {
         let entry = table.entries[found];
         return Found {
             answer: call_answers::DONE,
@@ -146,14 +157,14 @@ pub extern "C" fn gelmush_window(
         × (r .words ≡ length (windowPart ws count from until))
         × (now (answer .exit) ≡ windowAnswer ws count from until) ⌝ }
 {
-    let b = plan_window::bounds_of(plan, count, from, until);
+    let b = plan_window::bounds_of(plan, count, Slots(from), Slots(until));
     *answer = b.answer;
-    let mut first = 4 * b.first;
+    let mut first = spec_model::RECORD_WORDS * b.first;
     // The window of all earlier slots is looked at only where it may be given while this one is refused.
     if until < from {
-        let earlier = plan_window::bounds_of(plan, count, 0, from);
-        first = 4 * earlier.end;
+        let earlier = plan_window::bounds_of(plan, count, Slots(0), Slots(from));
+        first = spec_model::RECORD_WORDS * earlier.end;
     }
-    let words = 4 * (b.end - b.first);
+    let words = spec_model::RECORD_WORDS * (b.end - b.first);
     Place { first, words }
 }

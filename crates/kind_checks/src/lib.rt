@@ -4,14 +4,15 @@ ghost use Rattle.spec_model.specs.Answers.{offerNumber, fieldsAnswer};
 use kind_fraction::FractionStream;
 use kind_transfer::Transfer;
 use kind_whole::WholeStream;
+use spec_model::Frame;
 use spec_model::Intervals;
 use spec_model::OfferAnswer;
 use spec_model::Request;
 use spec_model::Slots;
 
 // Refusals 12 to 15, or Accepted where none applies.
-pub fn check_fields(q: Request, interval: Slots) -> OfferAnswer
-    ensures { λ r. ⌜ offerNumber r ≡ fieldsAnswer (interval .0) q ⌝ }
+pub fn check_fields(q: Request, f: Frame) -> OfferAnswer
+    ensures { λ r. ⌜ offerNumber r ≡ fieldsAnswer f q ⌝ }
 {
     let kind = q.kind;
     if kind == 1 {
@@ -21,7 +22,7 @@ pub fn check_fields(q: Request, interval: Slots) -> OfferAnswer
             max: Slots(q.max),
             life: Intervals(q.life),
         };
-        return fraction.check(interval);
+        return fraction.check(f.slots);
     }
     if kind == 2 {
         let whole = WholeStream {
@@ -30,7 +31,7 @@ pub fn check_fields(q: Request, interval: Slots) -> OfferAnswer
             max: Slots(q.max),
             life: Intervals(q.life),
         };
-        return whole.check(interval);
+        return whole.check(f.slots);
     }
     if kind == 3 {
         let transfer = Transfer {

@@ -11,19 +11,22 @@ use lib.Dec.{leb, eqb, ltb, leb·suc-suc}
 use lib.ListN.{length}
 use borrow.Author.Tests.{leb-true, le-leb, ltb-true, ltb-false, lt-ltb, le-ltb, eqb-true, eq-eqb}
 use Rattle.spec_lists.specs.Lists.{sumOf, anyOf}
-use Rattle.base_lists.specs.Tests.{clash, either, same-test, and-false, or-right}
 use Rattle.spec_lists.specs.All.{All}
+use Rattle.base_lists.specs.Tests.{clash, either, same-test, and-false, or-right}
 use Rattle.base_lists.specs.All.{all-map, all-zip, all-keep, all-of, all-unmap, none-any, any-none}
 use Rattle.base_lists.specs.Sums.{sum-ext, sum-same, sum-tight}
 use Rattle.base_lists.specs.Loops.{any-ext}
 use Rattle.spec_model.specs.Entries.{freeEntry, isHeld, isPiece}
 use Rattle.spec_model.specs.declared.Entry.{Entry}
 use Rattle.spec_model.specs.declared.Table.{Table}
+use Rattle.spec_model.specs.declared.Frame.{Frame}
+use Rattle.spec_model.specs.Frames.{roomIn}
+use Rattle.spec_model.specs.Tables.{heldOf, withEntries}
 use Rattle.spec_rules.specs.Share.{overfull, stepB, sooner}
 use Rattle.spec_rules.specs.Ahead.{standing, settled, misses, fitsAhead}
-use Rattle.spec_rules.specs.Calls.{heldOf}
+use Rattle.spec_rules.specs.WellFormed.{Tidy}
+use Rattle.law_model.specs.Names.{lower-nobody}
 use Rattle.law_steps.specs.StepB.{stepBOf}
-use Rattle.law_steps.specs.Places.{Tidy}
 use Rattle.law_steps.specs.Closed.{takes, takes-owed, takes-held, at-places}
 use Rattle.law_ahead.specs.Loop.{lookedPast, past-tidy, ahead-misses, ahead-turn}
 use Rattle.law_ahead.specs.Served.{served, Lasts, before-places, takes-more, served-more}
@@ -43,7 +46,7 @@ beyond n = standing freeEntry 0 0 0 (suc n)
 
 before-beyond : (n : ℕ) (f : Entry) → sooner f (beyond n) ≡ leb (f .left .0) n
 before-beyond n f =
-    rw (le-ltb (f .kind) 0 zero-le, le-ltb (f .stream) 0 zero-le, and-false (eqb (f .kind) 0), and-false (eqb (f .left .0) (suc n)))
+    rw (le-ltb (f .kind) 0 zero-le, lower-nobody (f .name), and-false (eqb (f .kind) 0), and-false (eqb (f .left .0) (suc n)))
     (go (ltb (f .left .0) (suc n)) (leb·suc-suc (f .left .0) n))
   where
     go : (b : Bool) {c : Bool} → b ≡ c → (b || false) ≡ c
@@ -138,28 +141,28 @@ module _ (m : ℕ) (t : Table) (w : Tidy t) (q : Until (suc m) t) where
 
   past-there : lookedPast u ≡ ended n t
   unfolding settled
-  past-there = past-ended u there-tidy ∙ ap (λ ps. record { interval = t .interval; entries = map settled ps })
+  past-there = past-ended u there-tidy ∙ ap (λ ps. withEntries t (map settled ps))
       (served-more t w m (m * E t) lasts 1 (1 * E u) ∙ ap₂ (λ a b. served a b (t .entries)) (omega arith) whole)
 
   pub turn-tidy : Tidy (ended n t)
   turn-tidy = subst Tidy past-there (past-tidy u there-tidy)
 
   -- ---- the interval of the end
-  abbrev B : ℕ
-  B = t .interval .0
+  abbrev F : Frame
+  F = t .frame
 
   -- what it gives an entry besides what those before it gave
-  taken : All (λ e. takes (m * E t) (t .entries) e + stepBOf B (heldOf u) (on-by m t e) ≡ takes (n * E t) (t .entries) e) (heldOf t)
+  taken : All (λ e. takes (m * E t) (t .entries) e + stepBOf F (heldOf u) (on-by m t e) ≡ takes (n * E t) (t .entries) e) (heldOf t)
   taken =
       all-zip one (all-keep isHeld (λ e h k. k) (takes-more t w m (m * E t) lasts (E u)))
       (all-unmap _ (on-by m t) (heldOf t) served-there)
     where
-      served-there : All (λ e. stepBOf B (heldOf u) e ≡ takes (E u) (u .entries) e) (map (on-by m t) (heldOf t))
-      served-there = subst (All (λ e. stepBOf B (heldOf u) e ≡ takes (E u) (u .entries) e)) (skipped-held m t) (takes-held u there-tidy)
+      served-there : All (λ e. stepBOf F (heldOf u) e ≡ takes (E u) (u .entries) e) (map (on-by m t) (heldOf t))
+      served-there = subst (All (λ e. stepBOf F (heldOf u) e ≡ takes (E u) (u .entries) e)) (skipped-held m t) (takes-held u there-tidy)
 
       one : (e : Entry) → takes (m * E t) (t .entries) e + takes (E u) (u .entries) (on-by m t e) ≡ takes (m * E t + E u) (t .entries) e
-          → stepBOf B (heldOf u) (on-by m t e) ≡ takes (E u) (u .entries) (on-by m t e)
-          → takes (m * E t) (t .entries) e + stepBOf B (heldOf u) (on-by m t e) ≡ takes (n * E t) (t .entries) e
+          → stepBOf F (heldOf u) (on-by m t e) ≡ takes (E u) (u .entries) (on-by m t e)
+          → takes (m * E t) (t .entries) e + stepBOf F (heldOf u) (on-by m t e) ≡ takes (n * E t) (t .entries) e
       one e h k = omega (arith, h, k, ap (λ c. takes c (t .entries) e) more)
         where
           more : m * E t + E u ≡ n * E t
@@ -168,19 +171,19 @@ module _ (m : ℕ) (t : Table) (w : Tidy t) (q : Until (suc m) t) where
   abbrev isLate : Entry → Bool
   isLate e = isDue n e && ltb (takes (n * E t) (t .entries) e) (e .owed .0)
 
-  late-there : anyOf (misses (stepB B (heldOf u))) (heldOf u) ≡ anyOf isLate (heldOf t)
+  late-there : anyOf (misses (stepB F (heldOf u))) (heldOf u) ≡ anyOf isLate (heldOf t)
   late-there =
-      ap (anyOf (misses (stepB B (heldOf u)))) (skipped-held m t)
-      ∙ any-map (misses (stepB B (heldOf u))) (on-by m t) (heldOf t)
+      ap (anyOf (misses (stepB F (heldOf u)))) (skipped-held m t)
+      ∙ any-map (misses (stepB F (heldOf u))) (on-by m t) (heldOf t)
       ∙ any-ext _ isLate (all-zip one quiet taken)
     where
       one : (e : Entry) → m < eventIn e
-          → takes (m * E t) (t .entries) e + stepBOf B (heldOf u) (on-by m t e) ≡ takes (n * E t) (t .entries) e
-          → misses (stepB B (heldOf u)) (on-by m t e) ≡ isLate e
+          → takes (m * E t) (t .entries) e + stepBOf F (heldOf u) (on-by m t e) ≡ takes (n * E t) (t .entries) e
+          → misses (stepB F (heldOf u)) (on-by m t e) ≡ isLate e
       one e h k = go (isPiece e) h
         where
           go : (b : Bool) → m < cond b (e .left .0) (e .«life_left» .0)
-              → (b && (eqb (e .left .0 - m) 1 && ltb (stepBOf B (heldOf u) (on-by m t e)) (on-by m t e .owed .0)))
+              → (b && (eqb (e .left .0 - m) 1 && ltb (stepBOf F (heldOf u) (on-by m t e)) (on-by m t e .owed .0)))
               ≡ ((b && leb (e .left .0) n) && ltb (takes (n * E t) (t .entries) e) (e .owed .0))
           go true l =
               ap₂ _&&_ (one-left m (e .left .0) l)
@@ -206,20 +209,20 @@ module _ (m : ℕ) (t : Table) (w : Tidy t) (q : Until (suc m) t) where
       paid k = at-places t w (Paid t w n (n * E t)) (λ z l. absurd (clash false z refl)) (all-map one (any-none isLate (heldOf t) k))
 
   -- ---- what looking ahead says
-  module _ (l : 1 ≤ length (heldOf t)) (o : overfull B (heldOf t) ≡ false) where
+  module _ (l : 1 ≤ length (heldOf t)) (o : overfull F (heldOf t) ≡ false) where
     there-some : 1 ≤ length (heldOf u)
     there-some = omega (arith, skipped-length m t)
 
-    there-full : overfull B (heldOf u) ≡ false
-    there-full = ap (ltb B) (skipped-load m t) ∙ o
+    there-full : overfull F (heldOf u) ≡ false
+    there-full = ap (ltb (roomIn F)) (skipped-load m t) ∙ o
 
-    pub turn-misses : n * E t < dueIn n (t .entries) → fitsAhead B (heldOf t) ≡ false
+    pub turn-misses : n * E t < dueIn n (t .entries) → fitsAhead F (heldOf t) ≡ false
     turn-misses h =
         sym (leap-ahead m t w quiet l o) ∙ ahead-misses u there-tidy there-some
-        (or-right (overfull B (heldOf u)) _ (late-there ∙ late-some h))
+        (or-right (overfull F (heldOf u)) _ (late-there ∙ late-some h))
 
-    pub turn-same : dueIn n (t .entries) ≤ n * E t → fitsAhead B (heldOf (ended n t)) ≡ fitsAhead B (heldOf t)
+    pub turn-same : dueIn n (t .entries) ≤ n * E t → fitsAhead F (heldOf (ended n t)) ≡ fitsAhead F (heldOf t)
     turn-same h =
-        ap (λ x. fitsAhead B (heldOf x)) (sym past-there)
+        ap (λ x. fitsAhead F (heldOf x)) (sym past-there)
         ∙ ahead-turn u there-tidy there-some there-full (late-there ∙ late-none h)
         ∙ leap-ahead m t w quiet l o

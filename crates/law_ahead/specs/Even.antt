@@ -12,11 +12,13 @@ use Rattle.spec_lists.specs.Lists.{sumOf, span}
 use Rattle.base_lists.specs.All.{all-map}
 use Rattle.base_lists.specs.Sums.{sum-le}
 use Rattle.base_numbers.specs.Upward.{upward, upward-enough}
-use Rattle.base_edf.specs.Time.{due, due-le, due-in}
+use Rattle.base_edf.specs.Time.{due-le, due-in}
 use Rattle.base_edf.specs.Necessity.{Fed, fed-gone, fed-room}
-use Rattle.spec_model.specs.Entries.{isKind, isPiece}
+use Rattle.spec_model.specs.Entries.{isKind, isPiece, asks}
 use Rattle.spec_model.specs.declared.Entry.{Entry}
-use Rattle.spec_rules.specs.Share.{load}
+use Rattle.spec_model.specs.declared.Frame.{Frame}
+use Rattle.spec_model.specs.Frames.{roomIn}
+use Rattle.spec_rules.specs.Share.{load, loadOf}
 use Rattle.spec_rules.specs.Ahead.{fitsAhead}
 use Rattle.spec_rules.specs.WellFormed.{Held}
 use Rattle.law_steps.specs.Held.{Piece, held-kinds, piece-of}
@@ -29,7 +31,7 @@ use Rattle.law_ahead.specs.Exact.{fits-ahead}
 unfoldable pub evenly : Entry → ℕ
 evenly e =
     let now = upward (e .owed .0) (e .left .0) in
-    let on = upward (e .min .0) (e .period .0) in
+    let on = upward (asks e) (e .period .0) in
     cond (isPiece e) (cond (isKind 2 e) (max now on) now) 0
 
 -- the same in every interval
@@ -42,7 +44,7 @@ span-even c zero l = rw zero-add (span-first c l)
 span-even c (suc s) l = rw suc-add (span-even c s l)
 
 -- ---- a piece is served in time
-module _ {B : ℕ} {e : Entry} (p : Piece B e) where
+module _ {F : Frame} {e : Entry} (p : Piece F e) where
   now-enough : e .owed .0 ≤ evenly e * e .left .0
   unfolding evenly
   now-enough = rw (piece-of e (p .kind)) (go (isKind 2 e))
@@ -51,56 +53,50 @@ module _ {B : ℕ} {e : Entry} (p : Piece B e) where
       now = upward (e .owed .0) (e .left .0)
 
       on : ℕ
-      on = upward (e .min .0) (e .period .0)
+      on = upward (asks e) (e .period .0)
 
       go : (b : Bool) → e .owed .0 ≤ cond b (max now on) now * e .left .0
       go true = le-trans (upward-enough (e .owed .0) (e .left .0) (p .ahead)) (mul-le-mul-right (e .left .0) (omega arith))
       go false = upward-enough (e .owed .0) (e .left .0) (p .ahead)
 
-  later-enough : 0 < p .following → e .min .0 ≤ evenly e * e .period .0
+  later-enough : 0 < p .following → asks e ≤ evenly e * e .period .0
   unfolding evenly
   later-enough h =
       rw (piece-of e (p .kind), eq-eqb (e .kind) 2 whole)
-      (le-trans (upward-enough (e .min .0) (e .period .0) (p .period-least)) (mul-le-mul-right (e .period .0) (omega arith)))
+      (le-trans (upward-enough (asks e) (e .period .0) (p .period-least)) (mul-le-mul-right (e .period .0) (omega arith)))
     where
       whole : e .kind ≡ 2
       whole = ⊎-elim (λ k. k) (λ k. absurd (omega (arith, p .once k))) (p .kind)
 
-even-fed : {B : ℕ} (e : Entry) → Held B e → Fed (sourceOf e) (λ _. evenly e)
-even-fed {B} e h = ⊎-elim (λ f. rw (fraction-source e (f .kind)) (fed-gone _)) piece (held-kinds h)
+even-fed : {F : Frame} (e : Entry) → Held F e → Fed (sourceOf e) (λ _. evenly e)
+even-fed {F} e h = ⊎-elim (λ f. rw (fraction-source e (f .kind)) (fed-gone _)) piece (held-kinds h)
   where
-    piece : Piece B e → Fed (sourceOf e) (λ _. evenly e)
+    piece : Piece F e → Fed (sourceOf e) (λ _. evenly e)
     piece p =
         rw (piece-source p) (
           omega (arith, span-first (evenly e) (e .left .0), now-enough p),
           λ k i. omega (arith, span-even (evenly e) (e .left .0 + k * e .period .0) (e .period .0), later-enough p (omega arith)),
         )
 
--- ---- what kind 1 takes never grows
-load-falls : {B : ℕ} (t : ℕ) (e : Entry) → Held B e → loadAt e t ≤ loadAt e 0
+-- ---- what an entry takes of every interval never grows
+load-falls : {F : Frame} (t : ℕ) (e : Entry) → Held F e → loadAt e t ≤ loadAt e 0
 unfolding loadAt
-load-falls t e h = go (isKind 1 e)
-  where
-    takes : ℕ
-    takes = e .parts * e .min .0
-
-    go : (b : Bool) → cond b (due (suc t) (e .«life_left» .0) takes) 0 ≤ cond b (due 1 (e .«life_left» .0) takes) 0
-    go true = omega (arith, due-le (suc t) (e .«life_left» .0) takes, due-in 1 (e .«life_left» .0) takes (h .alive))
-    go false = omega arith
+load-falls t e h =
+    omega (arith, due-le (suc t) (e .«life_left» .0) (loadOf e), due-in 1 (e .«life_left» .0) (loadOf e) (h .alive))
 
 -- ---- together
-module _ (B : ℕ) (es : List Entry) (w : Together B es) (h : load es + sumOf evenly es ≤ B) where
-  loads-fall : (t : ℕ) → loadsAt es t + sumOf evenly es ≤ B
+module _ (F : Frame) (es : List Entry) (w : Together F es) (h : load es + sumOf evenly es ≤ roomIn F) where
+  loads-fall : (t : ℕ) → loadsAt es t + sumOf evenly es ≤ roomIn F
   loads-fall t =
       omega (
         arith,
-        loads-now B es w,
+        loads-now F es w,
         sum-le (λ e. loadAt e t) (λ e. loadAt e 0) (all-map (load-falls t) (w .held)),
       )
 
-  pub even-ahead : fitsAhead B es ≡ true
+  pub even-ahead : fitsAhead F es ≡ true
   even-ahead =
-      fits-ahead B es w
+      fits-ahead F es w
       (record {
         load = λ t. omega (arith, loads-fall t);
         room = fed-room sourceOf (λ e _. evenly e) _ (λ t. omega (arith, loads-fall t)) (all-map even-fed (w .held));

@@ -10,12 +10,14 @@ use native.Mathlib.Omega.{arith}
 use lib.Dec.{ltb, eqb}
 use borrow.Author.Tests.{eq-eqb, ne-eqb, ltb-false, le-ltb}
 use Rattle.spec_lists.specs.Lists.{mostOf, anyOf}
-use Rattle.base_lists.specs.Tests.{clash, and-false}
 use Rattle.spec_lists.specs.All.{All}
+use Rattle.base_lists.specs.Tests.{clash, and-false}
 use Rattle.base_lists.specs.All.{head, all-zip, most-all, any-none, none-any}
 use Rattle.base_edf.specs.Edf.{rem, left}
 use Rattle.spec_model.specs.Entries.{isPiece}
 use Rattle.spec_model.specs.declared.Entry.{Entry}
+use Rattle.spec_model.specs.declared.Frame.{Frame}
+use Rattle.spec_model.specs.Frames.{roomIn}
 use Rattle.spec_rules.specs.Share.{load, overfull, stepB}
 use Rattle.spec_rules.specs.Ahead.{misses, goesWell, fitsAhead}
 use Rattle.spec_rules.specs.WellFormed.{Held}
@@ -26,42 +28,42 @@ use Rattle.law_ahead.specs.Moved.{Together, lifeOf, moved, no-extras, mo
 use Rattle.law_ahead.specs.Fits.{Fits, pieceOf, loads-now, fits-meets, fits-on, fits-back}
 
 -- ---- the test of a miss is the theory's
-module _ (B : ℕ) (es : List Entry) where
+module _ (F : Frame) (es : List Entry) where
   abbrev Meets : Entry → Type 0
-  Meets e = left (sourceOf e) ≤ 1 → rem (sourceOf e) ≤ pieceOf B es e
+  Meets e = left (sourceOf e) ≤ 1 → rem (sourceOf e) ≤ pieceOf F es e
 
-  meets-not : (e : Entry) → Held B e → Meets e → misses (stepB B es) e ≡ false
+  meets-not : (e : Entry) → Held F e → Meets e → misses (stepB F es) e ≡ false
   meets-not e h m = elim (held-kinds h) [
     | inl f ↦ rw (fraction-not e (f .kind))
     | inr p ↦ elim (ℕ-discrete (e .left .0) 1) [
       | yes q ↦
-          (let k : e .owed .0 ≤ stepBOf B es e =
-          omega (arith, m (omega (arith, source-left p)), source-rem p, ap (λ b. cond b (stepBOf B es e) 0) (piece-of e (p .kind))) in
-          rw (le-ltb (stepBOf B es e) (e .owed .0) k, and-false (eqb (e .left .0) 1)) (and-false (isPiece e)))
+          (let k : e .owed .0 ≤ stepBOf F es e =
+          omega (arith, m (omega (arith, source-left p)), source-rem p, ap (λ b. cond b (stepBOf F es e) 0) (piece-of e (p .kind))) in
+          rw (le-ltb (stepBOf F es e) (e .owed .0) k, and-false (eqb (e .left .0) 1)) (and-false (isPiece e)))
       | no q ↦ rw (ne-eqb (e .left .0) 1 q) (and-false (isPiece e))
     ]
   ]
 
-  not-misses : (e : Entry) → Held B e → misses (stepB B es) e ≡ false → Meets e
+  not-misses : (e : Entry) → Held F e → misses (stepB F es) e ≡ false → Meets e
   not-misses e h m l = elim (held-kinds h) [
     | inl f ↦ omega (arith, ap rem (fraction-source e (f .kind)))
     | inr p ↦
         (let one : e .left .0 ≡ 1 = omega (arith, source-left p, p .ahead) in
-        let k : ltb (stepBOf B es e) (e .owed .0) ≡ false =
-        sym (ap₂ (λ a b. a && (b && ltb (stepBOf B es e) (e .owed .0))) (piece-of e (p .kind)) (eq-eqb (e .left .0) 1 one)) ∙ m in
-        omega (arith, source-rem p, ap (λ b. cond b (stepBOf B es e) 0) (piece-of e (p .kind)), ltb-false (stepBOf B es e) (e .owed .0) k))
+        let k : ltb (stepBOf F es e) (e .owed .0) ≡ false =
+        sym (ap₂ (λ a b. a && (b && ltb (stepBOf F es e) (e .owed .0))) (piece-of e (p .kind)) (eq-eqb (e .left .0) 1 one)) ∙ m in
+        omega (arith, source-rem p, ap (λ b. cond b (stepBOf F es e) 0) (piece-of e (p .kind)), ltb-false (stepBOf F es e) (e .owed .0) k))
   ]
 
 -- ---- n intervals
-pub fits-well : (n B : ℕ) (es : List Entry) → Together B es → Fits B es → goesWell n B es ≡ true
+pub fits-well : (n : ℕ) (F : Frame) (es : List Entry) → Together F es → Fits F es → goesWell n F es ≡ true
 unfolding goesWell
-fits-well zero B es w f = refl
-fits-well (suc n) B es w f =
-    let x = no-extras B es (w .once) in
-    ap₂ (λ (a b : Bool). cond (a || b) false (goesWell n B (moved B [] es)))
-    (le-ltb B (load es) (omega (arith, f .load 0, loads-now B es w)))
-    (none-any (misses (stepB B es)) (all-zip (λ e h m. meets-not B es e h m) (w .held) (fits-meets B [] es w x f)))
-    ∙ fits-well n B (moved B [] es) (moved-together B [] es w x) (fits-on B [] es w x f)
+fits-well zero F es w f = refl
+fits-well (suc n) F es w f =
+    let x = no-extras F es (w .once) in
+    ap₂ (λ (a b : Bool). cond (a || b) false (goesWell n F (moved (stepB F es) [] es)))
+    (le-ltb (roomIn F) (load es) (omega (arith, f .load 0, loads-now F es w)))
+    (none-any (misses (stepB F es)) (all-zip (λ e h m. meets-not F es e h m) (w .held) (fits-meets F [] es w x f)))
+    ∙ fits-well n F (moved (stepB F es) [] es) (moved-together F (stepB F es) [] es w x) (fits-on F [] es w x f)
 
 branch : (a b r : Bool) → cond (a || b) false r ≡ true → (a ≡ false) × (b ≡ false) × (r ≡ true)
 branch true b r h = absurd (clash false h refl)
@@ -69,28 +71,28 @@ branch false true r h = absurd (clash false h refl)
 branch false false r h = (refl, refl, h)
 
 -- nothing is held any more
-none-left : (B : ℕ) (es : List Entry) → Together B es → All (λ e. e .«life_left» .0 ≤ 0) es → Fits B es
-none-left B [] w l = record { load = λ t. zero-le; room = λ s d. zero-le }
-none-left B (e ∷ es) w l = absurd (omega (arith, head (w .held) .alive, head l))
+none-left : (F : Frame) (es : List Entry) → Together F es → All (λ e. e .«life_left» .0 ≤ 0) es → Fits F es
+none-left F [] w l = record { load = λ t. zero-le; room = λ s d. zero-le }
+none-left F (e ∷ es) w l = absurd (omega (arith, head (w .held) .alive, head l))
 
-pub well-fits : (n B : ℕ) (es : List Entry) → Together B es → All (λ e. e .«life_left» .0 ≤ n) es → goesWell n B es ≡ true → Fits B es
+pub well-fits : (n : ℕ) (F : Frame) (es : List Entry) → Together F es → All (λ e. e .«life_left» .0 ≤ n) es → goesWell n F es ≡ true → Fits F es
 unfolding goesWell
-well-fits zero B es w l h = none-left B es w l
-well-fits (suc n) B es w l h =
-    let x = no-extras B es (w .once) in
-    let p = branch (overfull B es) (anyOf (misses (stepB B es)) es) (goesWell n B (moved B [] es)) h in
-    fits-back B [] es w x (ltb-false B (load es) (p .0))
-    (all-zip (λ e h m. not-misses B es e h m) (w .held) (any-none (misses (stepB B es)) es (p .1)))
-    (well-fits n B (moved B [] es) (moved-together B [] es w x) (moved-life B [] es w x n l) (p .2))
+well-fits zero F es w l h = none-left F es w l
+well-fits (suc n) F es w l h =
+    let x = no-extras F es (w .once) in
+    let p = branch (overfull F es) (anyOf (misses (stepB F es)) es) (goesWell n F (moved (stepB F es) [] es)) h in
+    fits-back F [] es w x (ltb-false (roomIn F) (load es) (p .0))
+    (all-zip (λ e h m. not-misses F es e h m) (w .held) (any-none (misses (stepB F es)) es (p .1)))
+    (well-fits n F (moved (stepB F es) [] es) (moved-together F (stepB F es) [] es w x) (moved-life F (stepB F es) [] es w x n l) (p .2))
 
 -- ---- until every life is used up
 pub lives-most : (es : List Entry) → All (λ e. e .«life_left» .0 ≤ mostOf lifeOf es) es
 lives-most es = most-all lifeOf es (mostOf lifeOf es) (le-refl _)
 
-pub ahead-fits : (B : ℕ) (es : List Entry) → Together B es → fitsAhead B es ≡ true → Fits B es
+pub ahead-fits : (F : Frame) (es : List Entry) → Together F es → fitsAhead F es ≡ true → Fits F es
 unfolding fitsAhead
-ahead-fits B es w h = well-fits (mostOf lifeOf es) B es w (lives-most es) h
+ahead-fits F es w h = well-fits (mostOf lifeOf es) F es w (lives-most es) h
 
-pub fits-ahead : (B : ℕ) (es : List Entry) → Together B es → Fits B es → fitsAhead B es ≡ true
+pub fits-ahead : (F : Frame) (es : List Entry) → Together F es → Fits F es → fitsAhead F es ≡ true
 unfolding fitsAhead
-fits-ahead B es w f = fits-well (mostOf lifeOf es) B es w f
+fits-ahead F es w f = fits-well (mostOf lifeOf es) F es w f

@@ -12,54 +12,56 @@ use Rattle.base_lists.specs.Sums.{sum-ext, sum-same}
 use Rattle.base_edf.specs.Time.{due}
 use Rattle.base_edf.specs.Edf.{Source, source, rem, left, gone, next, dem, Room, Greedy, NoMiss, no-miss, room-next, greedy-total}
 use Rattle.base_edf.specs.Converse.{room-back}
-use Rattle.spec_model.specs.Entries.{isKind, isPiece}
+use Rattle.spec_model.specs.Entries.{isPiece, asks}
 use Rattle.spec_model.specs.declared.Entry.{Entry}
-use Rattle.spec_rules.specs.Share.{Grant, load, slotsFor, capacity}
+use Rattle.spec_model.specs.declared.Frame.{Frame}
+use Rattle.spec_model.specs.Frames.{roomIn}
+use Rattle.spec_rules.specs.Share.{Grant, loadOf, load, slotsFor, capacity, stepB}
 use Rattle.law_steps.specs.Sources.{sourceOf, loadAt, free-source, source-next, held-sound, load-free, load-now, load-next}
 use Rattle.law_steps.specs.StepB.{stepBOf, stepB-within, stepB-due}
-use Rattle.law_ahead.specs.Moved.{Together, stepOf, moved, Extras, moved-sum}
+use Rattle.law_ahead.specs.Moved.{Together, stepOf, moved, MayGive, moved-sum}
 
 -- what kind 1 takes of the interval t intervals on, and what it leaves
 abbrev pub loadsAt : List Entry → ℕ → ℕ
 loadsAt es t = sumOf (λ (e : Entry). loadAt e t) es
 
-abbrev pub spareAt : ℕ → List Entry → ℕ → ℕ
-spareAt B es t = B - loadsAt es t
+abbrev pub spareAt : Frame → List Entry → ℕ → ℕ
+spareAt F es t = roomIn F - loadsAt es t
 
-pub record Fits (B : ℕ) (es : List Entry) : Type 0 where
-  pub load : (t : ℕ) → loadsAt es t ≤ B
-  pub room : Room sourceOf es (spareAt B es)
+pub record Fits (F : Frame) (es : List Entry) : Type 0 where
+  pub load : (t : ℕ) → loadsAt es t ≤ roomIn F
+  pub room : Room sourceOf es (spareAt F es)
 
 -- what step B gives an entry; nothing to kind 1
-abbrev pub pieceOf : ℕ → List Entry → Entry → ℕ
-pieceOf B es e = cond (isPiece e) (stepBOf B es e) 0
+abbrev pub pieceOf : Frame → List Entry → Entry → ℕ
+pieceOf F es e = cond (isPiece e) (stepBOf F es e) 0
 
 -- the load that step A counts
-pub loads-now : (B : ℕ) (es : List Entry) → Together B es → load es ≡ loadsAt es 0
+pub loads-now : (F : Frame) (es : List Entry) → Together F es → load es ≡ loadsAt es 0
 unfolding load
-loads-now B es w =
-    sum-ext (λ (e : Entry). cond (isKind 1 e) (e .parts * e .min .0) 0) (λ e. loadAt e 0) (all-map (λ e h. load-now h) (w .held))
+loads-now F es w =
+    sum-ext loadOf (λ e. loadAt e 0) (all-map (λ e h. load-now h) (w .held))
 
 -- ---- step B is a greedy step
-stepB-greedy : (B : ℕ) (es : List Entry) → Together B es → Greedy sourceOf es (pieceOf B es) (capacity B es)
+stepB-greedy : (F : Frame) (es : List Entry) → Together F es → Greedy sourceOf es (pieceOf F es) (capacity F es)
 unfolding sourceOf
-stepB-greedy B es w =
+stepB-greedy F es w =
     record {
-      within = all-map (λ e h. below e (isPiece e) h) (stepB-within B es (w .once));
+      within = all-map (λ e h. below e (isPiece e) h) (stepB-within F es (w .once));
       first = λ d. omega (
         arith,
-        stepB-due B es (w .once) d,
-        sum-same (λ e. due (left (sourceOf e)) d (pieceOf B es e)) (λ e. cond (isPiece e) (due (e .left .0) d (stepBOf B es e)) 0) es
-            (λ e. given e (isPiece e) d (stepBOf B es e)),
+        stepB-due F es (w .once) d,
+        sum-same (λ e. due (left (sourceOf e)) d (pieceOf F es e)) (λ e. cond (isPiece e) (due (e .left .0) d (stepBOf F es e)) 0) es
+            (λ e. given e (isPiece e) d (stepBOf F es e)),
         sum-same (λ e. due (left (sourceOf e)) d (rem (sourceOf e)))
             (λ (e : Entry). cond (isPiece e) (due (e .left .0) d (e .owed .0)) 0) es (λ e. owed e (isPiece e) d),
       );
     }
   where
     at : Entry → Bool → Source
-    at e b = cond b (source (e .owed .0) (e .left .0) (e .min .0) (e .period .0) ((e .«life_left» .0 - e .left .0) / e .period .0)) gone
+    at e b = cond b (source (e .owed .0) (e .left .0) (asks e) (e .period .0) ((e .«life_left» .0 - e .left .0) / e .period .0)) gone
 
-    below : (e : Entry) (b : Bool) → (b ≡ true → stepBOf B es e ≤ e .owed .0) → cond b (stepBOf B es e) 0 ≤ rem (at e b)
+    below : (e : Entry) (b : Bool) → (b ≡ true → stepBOf F es e ≤ e .owed .0) → cond b (stepBOf F es e) 0 ≤ rem (at e b)
     below e true h = h refl
     below e false h = zero-le
 
@@ -72,57 +74,57 @@ stepB-greedy B es w =
     owed e false d = refl
 
 -- ---- an interval
-module _ (B : ℕ) (cs : List Grant) (es : List Entry) (w : Together B es) (x : Extras B cs es) where
-  moved-loads : (t : ℕ) → loadsAt (moved B cs es) t ≡ loadsAt es (suc t)
+module _ (F : Frame) (cs : List Grant) (es : List Entry) (w : Together F es) (x : MayGive (stepB F es) cs es) where
+  moved-loads : (t : ℕ) → loadsAt (moved (stepB F es) cs es) t ≡ loadsAt es (suc t)
   moved-loads t =
-      moved-sum B cs es w x (λ e. loadAt e t) (load-free t)
-      ∙ sum-ext (λ e. loadAt (stepOf B cs es e) t) (λ e. loadAt e (suc t))
-      (all-map (λ e h. load-next B (stepBOf B es e) (slotsFor (e .stream) cs) e t h) (w .held))
+      moved-sum F (stepB F es) cs es w x (λ e. loadAt e t) (load-free t)
+      ∙ sum-same (λ e. loadAt (stepOf (stepB F es) cs e) t) (λ e. loadAt e (suc t)) es
+      (λ e. load-next (stepBOf F es e) (slotsFor (e .name) cs) e t)
 
-  moved-spare : spareAt B (moved B cs es) ≡ (λ u. spareAt B es (suc u))
-  moved-spare = fun-ext (λ t. ap (λ v. B - v) (moved-loads t))
+  moved-spare : spareAt F (moved (stepB F es) cs es) ≡ (λ u. spareAt F es (suc u))
+  moved-spare = fun-ext (λ t. ap (λ v. roomIn F - v) (moved-loads t))
 
   -- what the entries ask after the interval is what their sources ask after a step
   moved-dems : (s d : ℕ)
-      → sumOf (λ e. dem (sourceOf e) s d) (moved B cs es) ≡ sumOf (λ e. dem (next (sourceOf e) (pieceOf B es e)) s d) es
+      → sumOf (λ e. dem (sourceOf e) s d) (moved (stepB F es) cs es) ≡ sumOf (λ e. dem (next (sourceOf e) (pieceOf F es e)) s d) es
   moved-dems s d =
-      moved-sum B cs es w x (λ e. dem (sourceOf e) s d) (ap (λ a. dem a s d) free-source ∙ none s)
-      ∙ sum-ext (λ e. dem (sourceOf (stepOf B cs es e)) s d) (λ e. dem (next (sourceOf e) (pieceOf B es e)) s d)
-      (all-map (λ e h. ap (λ a. dem a s d) (source-next B (stepBOf B es e) (slotsFor (e .stream) cs) e h)) (w .held))
+      moved-sum F (stepB F es) cs es w x (λ e. dem (sourceOf e) s d) (ap (λ a. dem a s d) free-source ∙ none s)
+      ∙ sum-ext (λ e. dem (sourceOf (stepOf (stepB F es) cs e)) s d) (λ e. dem (next (sourceOf e) (pieceOf F es e)) s d)
+      (all-map (λ e h. ap (λ a. dem a s d) (source-next F (stepBOf F es e) (slotsFor (e .name) cs) e h)) (w .held))
     where
       none : (s : ℕ) → dem gone s d ≡ 0
       none zero = refl
       none (suc s) = refl
 
-  greedy-now : Greedy sourceOf es (pieceOf B es) (spareAt B es 0)
-  greedy-now = subst (Greedy sourceOf es (pieceOf B es)) (ap (λ v. B - v) (loads-now B es w)) (stepB-greedy B es w)
+  greedy-now : Greedy sourceOf es (pieceOf F es) (spareAt F es 0)
+  greedy-now = subst (Greedy sourceOf es (pieceOf F es)) (ap (λ v. roomIn F - v) (loads-now F es w)) (stepB-greedy F es w)
 
   -- no deadline is missed
-  pub fits-meets : Fits B es → NoMiss sourceOf es (pieceOf B es)
-  fits-meets f = no-miss sourceOf (spareAt B es) greedy-now (f .room)
+  pub fits-meets : Fits F es → NoMiss sourceOf es (pieceOf F es)
+  fits-meets f = no-miss sourceOf (spareAt F es) greedy-now (f .room)
 
-  pub fits-on : Fits B es → Fits B (moved B cs es)
+  pub fits-on : Fits F es → Fits F (moved (stepB F es) cs es)
   fits-on f =
       record {
         load = λ t. omega (arith, f .load (suc t), moved-loads t);
         room = λ s d. omega (
           arith,
           moved-dems s d,
-          room-next sourceOf (spareAt B es) greedy-now (f .room) s d,
+          room-next sourceOf (spareAt F es) greedy-now (f .room) s d,
           ap (λ c. span c s d) moved-spare,
         );
       }
 
   -- and back, where kind 1 fits the interval and no deadline is missed in it
-  pub fits-back : load es ≤ B → NoMiss sourceOf es (pieceOf B es) → Fits B (moved B cs es) → Fits B es
+  pub fits-back : load es ≤ roomIn F → NoMiss sourceOf es (pieceOf F es) → Fits F (moved (stepB F es) cs es) → Fits F es
   fits-back l m f =
       record {
         load = each;
-        room = room-back sourceOf (spareAt B es) (all-map (λ e h. held-sound h) (w .held))
+        room = room-back sourceOf (spareAt F es) (all-map (λ e h. held-sound h) (w .held))
             (omega (arith, greedy-total sourceOf greedy-now)) m
             (λ s d. omega (arith, moved-dems s d, f .room s d, ap (λ c. span c s d) moved-spare));
       }
     where
-      each : (t : ℕ) → loadsAt es t ≤ B
-      each zero = omega (arith, loads-now B es w)
+      each : (t : ℕ) → loadsAt es t ≤ roomIn F
+      each zero = omega (arith, loads-now F es w)
       each (suc t) = omega (arith, f .load t, moved-loads t)

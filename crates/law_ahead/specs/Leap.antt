@@ -11,22 +11,24 @@ use lib.Dec.{eqb, ltb}
 use lib.ListN.{length, length-map}
 use borrow.Author.Tests.{eq-eqb, ne-eqb}
 use Rattle.spec_lists.specs.Lists.{cons-if, keep, anyOf}
-use Rattle.base_lists.specs.Tests.{clash}
 use Rattle.spec_lists.specs.All.{All}
+use Rattle.base_lists.specs.Tests.{clash}
 use Rattle.base_lists.specs.All.{all-map, all-zip, all-of, all-of-map, map-ext, none-any}
 use Rattle.base_lists.specs.Sums.{sum-map}
 use Rattle.spec_model.specs.Entries.{freeEntry, isHeld, isKind, isPiece}
 use Rattle.spec_model.specs.declared.Entry.{Entry}
 use Rattle.spec_model.specs.declared.Table.{Table}
-use Rattle.spec_rules.specs.Share.{slotsFor, load, overfull, capacity, stepB}
+use Rattle.spec_model.specs.declared.Frame.{Frame}
+use Rattle.spec_model.specs.Frames.{roomIn}
+use Rattle.spec_model.specs.Tables.{heldOf, withEntries}
+use Rattle.spec_rules.specs.Share.{slotsFor, load, overfull, capacity, stepB, loadOf}
 use Rattle.spec_rules.specs.Ahead.{passed, renewed, settled, stepF, misses, fitsAhead}
-use Rattle.spec_rules.specs.Calls.{heldOf}
-use Rattle.spec_rules.specs.WellFormed.{Held}
+use Rattle.spec_rules.specs.WellFormed.{Held, Tidy}
 use Rattle.law_steps.specs.Grants.{slots-none}
 use Rattle.law_steps.specs.Held.{Fraction, Piece, held-kinds, piece-of, not-fraction, fraction-not}
 use Rattle.law_steps.specs.Settled.{after, after-free}
 use Rattle.law_steps.specs.StepB.{stepBOf}
-use Rattle.law_steps.specs.Places.{Tidy, tidy-held}
+use Rattle.law_steps.specs.Places.{tidy-held}
 use Rattle.law_steps.specs.Closed.{takes, takes-owed, takes-most, takes-held, at-places}
 use Rattle.law_ahead.specs.Loop.{lookedPast, past-tidy, ahead-turn}
 use Rattle.law_ahead.specs.Served.{later, served, Lasts, standing-same, served-more}
@@ -41,11 +43,11 @@ Quiet n t = All (λ e. n < eventIn e) (heldOf t)
 
 -- ---- one entry
 -- the interval before what ends with it
-passed-later : {B : ℕ} (e : Entry) (b : ℕ) → b ≤ e .owed .0 → Held B e → passed b 0 e ≡ later 1 b e
+passed-later : {F : Frame} (e : Entry) (b : ℕ) → b ≤ e .owed .0 → Held F e → passed b 0 e ≡ later 1 b e
 unfolding passed
-passed-later {B} e b k h = ⊎-elim fraction piece (held-kinds h)
+passed-later {F} e b k h = ⊎-elim fraction piece (held-kinds h)
   where
-    fraction : Fraction B e → passed b 0 e ≡ later 1 b e
+    fraction : Fraction F e → passed b 0 e ≡ later 1 b e
     fraction f =
         standing-same e refl (none _ (omega (arith, f .owed))) (none _ (omega (arith, f .owed, f .given)))
         (none _ (omega (arith, f .left)))
@@ -53,7 +55,7 @@ passed-later {B} e b k h = ⊎-elim fraction piece (held-kinds h)
         none : (x : ℕ) {y : ℕ} → y ≡ 0 → cond (isKind 1 e) 0 x ≡ y
         none x z = rw (eq-eqb (e .kind) 1 (f .kind)) (sym z)
 
-    piece : Piece B e → passed b 0 e ≡ later 1 b e
+    piece : Piece F e → passed b 0 e ≡ later 1 b e
     piece p = standing-same e refl (same refl) (same (omega arith)) (same refl)
       where
         same : {x y : ℕ} → x ≡ y → cond (isKind 1 e) 0 x ≡ y
@@ -68,16 +70,16 @@ settled-on e l k = rw (ne-eqb (e .«life_left» .0) 0 (λ z. omega arith)) (go (
     go true h = rw (ne-eqb (e .left .0) 0 (λ z. omega (arith, k (rw h)))) refl
     go false h = refl
 
-pub later-on : {B : ℕ} (n b : ℕ) (e : Entry) → Held B e → n < eventIn e → settled (later n b e) ≡ later n b e
-later-on {B} n b e h q = ⊎-elim fraction piece (held-kinds h)
+pub later-on : {F : Frame} (n b : ℕ) (e : Entry) → Held F e → n < eventIn e → settled (later n b e) ≡ later n b e
+later-on {F} n b e h q = ⊎-elim fraction piece (held-kinds h)
   where
-    fraction : Fraction B e → settled (later n b e) ≡ later n b e
+    fraction : Fraction F e → settled (later n b e) ≡ later n b e
     fraction f =
         let other = fraction-not e (f .kind) in
         settled-on (later n b e) (omega (arith, ap (λ x. cond x (e .left .0) (e .«life_left» .0)) other))
         (λ z. absurd (clash (isPiece e) z other))
 
-    piece : Piece B e → settled (later n b e) ≡ later n b e
+    piece : Piece F e → settled (later n b e) ≡ later n b e
     piece p =
         let soon = ap (λ x. cond x (e .left .0) (e .«life_left» .0)) (piece-of e (p .kind)) in
         settled-on (later n b e) (omega (arith, soon, p .lives)) (λ z. omega (arith, soon))
@@ -89,14 +91,14 @@ later-free n c ps =
 
 -- ---- a table n intervals on: E slots in each
 abbrev pub E : Table → ℕ
-E t = capacity (t .interval .0) (heldOf t)
+E t = capacity (t .frame) (heldOf t)
 
 abbrev pub skipped : ℕ → Table → Table
-skipped n t = record { interval = t .interval; entries = served n (n * E t) (t .entries) }
+skipped n t = withEntries t (served n (n * E t) (t .entries))
 
 -- and then what is over ends
 abbrev pub ended : ℕ → Table → Table
-ended n t = record { interval = t .interval; entries = map settled (served n (n * E t) (t .entries)) }
+ended n t = withEntries t (map settled (served n (n * E t) (t .entries)))
 
 -- the places stay held or free
 keep-map : {A : Type 0} (p : A → Bool) (f : A → A) (xs : List A) → ((x : A) → p (f x) ≡ p x) → keep p (map f xs) ≡ map f (keep p xs)
@@ -119,13 +121,13 @@ module _ (n : ℕ) (t : Table) where
 
   pub skipped-load : load (heldOf (skipped n t)) ≡ load (heldOf t)
   unfolding load
-  skipped-load = ap load skipped-held ∙ sum-map (λ (e : Entry). cond (isKind 1 e) (e .parts * e .min .0) 0) on-by (heldOf t)
+  skipped-load = ap load skipped-held ∙ sum-map loadOf on-by (heldOf t)
 
   pub skipped-capacity : E (skipped n t) ≡ E t
-  skipped-capacity = ap (λ v. t .interval .0 - v) skipped-load
+  skipped-capacity = ap (λ v. roomIn (t .frame) - v) skipped-load
 
 skipped-none : (t : Table) → skipped 0 t ≡ t
-skipped-none t = ap (λ ps. record { interval = t .interval; entries = ps })
+skipped-none t = ap (withEntries t)
     (map-ext (on-by 0 t) (λ e. e) (all-of (t .entries) one) ∙ map-id (t .entries))
   where
     one : (e : Entry) → on-by 0 t e ≡ e
@@ -137,29 +139,29 @@ skipped-none t = ap (λ ps. record { interval = t .interval; entries = ps })
 module _ (t : Table) (w : Tidy t) where
   pub past-ended : lookedPast t ≡ ended 1 t
   unfolding stepF settled
-  past-ended = ap (λ ps. record { interval = t .interval; entries = ps })
-      (map-ext (λ e. after (stepBOf B es e) (slotsFor (e .stream) []) e) (λ e. settled (on-by 1 t e))
-      (at-places t w (λ e. after (stepBOf B es e) (slotsFor (e .stream) []) e ≡ settled (on-by 1 t e))
+  past-ended = ap (withEntries t)
+      (map-ext (λ e. after (stepBOf F es e) (slotsFor (e .name) []) e) (λ e. settled (on-by 1 t e))
+      (at-places t w (λ e. after (stepBOf F es e) (slotsFor (e .name) []) e ≡ settled (on-by 1 t e))
       (after-free _ _ ∙ sym (ap settled (later-free 1 (1 * E t) (t .entries))))
       (all-zip one (tidy-held w) (takes-held t w)))
       ∙ sym (map-map settled (on-by 1 t) (t .entries)))
     where
-      B : ℕ
-      B = t .interval .0
+      F : Frame
+      F = t .frame
 
       es : List Entry
       es = heldOf t
 
-      one : (e : Entry) → Held B e → stepBOf B es e ≡ takes (E t) (t .entries) e
-          → after (stepBOf B es e) (slotsFor (e .stream) []) e ≡ settled (on-by 1 t e)
+      one : (e : Entry) → Held F e → stepBOf F es e ≡ takes (E t) (t .entries) e
+          → after (stepBOf F es e) (slotsFor (e .name) []) e ≡ settled (on-by 1 t e)
       one e h k =
-          ap₂ (λ b c. after b c e) (k ∙ ap (λ c. takes c (t .entries) e) (omega arith)) (slots-none (e .stream))
+          ap₂ (λ b c. after b c e) (k ∙ ap (λ c. takes c (t .entries) e) (omega arith)) (slots-none (e .name))
           ∙ ap settled (passed-later e (takes (1 * E t) (t .entries) e) (takes-owed (1 * E t) (t .entries) e) h)
 
 module _ (t : Table) (w : Tidy t) (q : Quiet 1 t) where
   past-skipped : lookedPast t ≡ skipped 1 t
   unfolding settled
-  past-skipped = past-ended t w ∙ ap (λ ps. record { interval = t .interval; entries = ps })
+  past-skipped = past-ended t w ∙ ap (withEntries t)
       (map-map settled (on-by 1 t) (t .entries)
       ∙ map-ext (λ e. settled (on-by 1 t e)) (on-by 1 t)
       (at-places t w (λ e. settled (on-by 1 t e) ≡ on-by 1 t e)
@@ -173,7 +175,7 @@ module _ (t : Table) (w : Tidy t) (q : Quiet 1 t) where
       one e h p = omega (arith, ap (λ b. cond b (e .left .0) (e .«life_left» .0)) p)
 
   skipped-more : (n : ℕ) → skipped (suc n) t ≡ skipped n (lookedPast t)
-  skipped-more n = sym (ap (skipped n) past-skipped ∙ ap (λ ps. record { interval = t .interval; entries = ps }) more)
+  skipped-more n = sym (ap (skipped n) past-skipped ∙ ap (withEntries t) more)
     where
       more : served n (n * E (skipped 1 t)) (skipped 1 t .entries) ≡ served (suc n) (suc n * E t) (t .entries)
       more =
@@ -181,8 +183,8 @@ module _ (t : Table) (w : Tidy t) (q : Quiet 1 t) where
           ∙ served-more t w 1 (1 * E t) lasts n (n * E t)
           ∙ ap₂ (λ a b. served a b (t .entries)) (omega arith) (omega arith)
 
-  no-miss : anyOf (misses (stepB (t .interval .0) (heldOf t))) (heldOf t) ≡ false
-  no-miss = none-any (misses (stepB (t .interval .0) (heldOf t))) (all-map (λ e h. go e (isPiece e) _ h) q)
+  no-miss : anyOf (misses (stepB (t .frame) (heldOf t))) (heldOf t) ≡ false
+  no-miss = none-any (misses (stepB (t .frame) (heldOf t))) (all-map (λ e h. go e (isPiece e) _ h) q)
     where
       go : (e : Entry) (p r : Bool) → 1 < cond p (e .left .0) (e .«life_left» .0) → (p && (eqb (e .left .0) 1 && r)) ≡ false
       go e true r h = ap (λ b. b && r) (ne-eqb (e .left .0) 1 (λ z. omega arith))
@@ -210,18 +212,18 @@ module _ (n : ℕ) (t : Table) (w : Tidy t) (q : Quiet n t) where
   pub leap-tidy : Tidy (skipped n t)
   leap-tidy = leap-keeps Tidy (λ u v r p. past-tidy u v) n t w q w
 
-  pub leap-ahead : 1 ≤ length (heldOf t) → overfull (t .interval .0) (heldOf t) ≡ false
-      → fitsAhead (t .interval .0) (heldOf (skipped n t)) ≡ fitsAhead (t .interval .0) (heldOf t)
+  pub leap-ahead : 1 ≤ length (heldOf t) → overfull (t .frame) (heldOf t) ≡ false
+      → fitsAhead (t .frame) (heldOf (skipped n t)) ≡ fitsAhead (t .frame) (heldOf t)
   leap-ahead l o = leap-keeps P step n t w q (l, o, refl) .2
     where
       P : Table → Type 0
-      P u = (1 ≤ length (heldOf u)) × (overfull (u .interval .0) (heldOf u) ≡ false)
-          × (fitsAhead (u .interval .0) (heldOf u) ≡ fitsAhead (t .interval .0) (heldOf t))
+      P u = (1 ≤ length (heldOf u)) × (overfull (u .frame) (heldOf u) ≡ false)
+          × (fitsAhead (u .frame) (heldOf u) ≡ fitsAhead (t .frame) (heldOf t))
 
       step : (u : Table) → Tidy u → Quiet 1 u → P u → P (lookedPast u)
       step u v r p = (
         omega (arith, p .0, skipped-length 1 u, ap (λ x. length (heldOf x)) (past-skipped u v r)),
-        ap (λ x. ltb (u .interval .0) (load (heldOf x))) (past-skipped u v r)
-            ∙ ap (ltb (u .interval .0)) (skipped-load 1 u) ∙ p .1,
+        ap (λ x. ltb (roomIn (u .frame)) (load (heldOf x))) (past-skipped u v r)
+            ∙ ap (ltb (roomIn (u .frame))) (skipped-load 1 u) ∙ p .1,
         ahead-turn u v (p .0) (p .1) (no-miss u v r) ∙ p .2,
       )

@@ -12,42 +12,43 @@ use Rattle.spec_lists.specs.All.{All}
 use Rattle.base_lists.specs.All.{head}
 use Rattle.spec_model.specs.declared.Entry.{Entry}
 use Rattle.spec_model.specs.declared.Table.{Table}
+use Rattle.spec_model.specs.declared.Frame.{Frame}
+use Rattle.spec_model.specs.Tables.{heldOf}
 use Rattle.spec_rules.specs.Share.{overfull, stepB}
 use Rattle.spec_rules.specs.Ahead.{misses, goesWell, fitsAhead}
-use Rattle.spec_rules.specs.Calls.{heldOf}
-use Rattle.spec_rules.specs.WellFormed.{Held}
-use Rattle.law_steps.specs.Places.{Tidy, tidy-held}
+use Rattle.spec_rules.specs.WellFormed.{Held, Tidy}
+use Rattle.law_steps.specs.Places.{tidy-held}
 use Rattle.law_ahead.specs.Moved.{moved, lifeOf, no-extras, moved-most}
 use Rattle.law_ahead.specs.Tables.{tidy-together, stepped, stepped-held, stepped-tidy}
 
 -- the table one interval on, as looking ahead has it: without extras
 abbrev pub lookedPast : Table → Table
-lookedPast t = stepped [] t
+lookedPast t = stepped (stepB (t .frame) (heldOf t)) [] t
 
-pub past-held : (t : Table) → Tidy t → heldOf (lookedPast t) ≡ moved (t .interval .0) [] (heldOf t)
-past-held t w = stepped-held [] t w
+pub past-held : (t : Table) → Tidy t → heldOf (lookedPast t) ≡ moved (stepB (t .frame) (heldOf t)) [] (heldOf t)
+past-held t w = stepped-held (stepB (t .frame) (heldOf t)) [] t w
 
 pub past-tidy : (t : Table) → Tidy t → Tidy (lookedPast t)
-past-tidy t w = stepped-tidy [] t w (no-extras (t .interval .0) (heldOf t) (w .once))
+past-tidy t w = stepped-tidy (stepB (t .frame) (heldOf t)) [] t w (no-extras (t .frame) (heldOf t) (w .once))
 
 -- ---- nothing is held
-pub ahead-none : (B : ℕ) → fitsAhead B [] ≡ true
+pub ahead-none : (F : Frame) → fitsAhead F [] ≡ true
 unfolding fitsAhead goesWell
-ahead-none B = refl
+ahead-none F = refl
 
-pub ahead-over : (B : ℕ) (es : List Entry) → length es ≡ 0 → fitsAhead B es ≡ true
-ahead-over B [] z = ahead-none B
-ahead-over B (e ∷ es) z = absurd (omega arith)
+pub ahead-over : (F : Frame) (es : List Entry) → length es ≡ 0 → fitsAhead F es ≡ true
+ahead-over F [] z = ahead-none F
+ahead-over F (e ∷ es) z = absurd (omega arith)
 
 -- ---- a turn
 -- a held entry has life left
-held-lives : {B : ℕ} (es : List Entry) → All (Held B) es → 1 ≤ length es → 1 ≤ mostOf lifeOf es
+held-lives : {F : Frame} (es : List Entry) → All (Held F) es → 1 ≤ length es → 1 ≤ mostOf lifeOf es
 held-lives [] h l = absurd (omega arith)
 held-lives (e ∷ es) h l = omega (arith, head h .alive)
 
 module _ (t : Table) (w : Tidy t) (l : 1 ≤ length (heldOf t)) where
-  abbrev B : ℕ
-  B = t .interval .0
+  abbrev F : Frame
+  F = t .frame
 
   abbrev es : List Entry
   es = heldOf t
@@ -56,20 +57,20 @@ module _ (t : Table) (w : Tidy t) (l : 1 ≤ length (heldOf t)) where
   past = heldOf (lookedPast t)
 
   past-most : mostOf lifeOf past ≡ mostOf lifeOf es - 1
-  past-most = ap (mostOf lifeOf) (past-held t w) ∙ moved-most B [] es (tidy-together w) (no-extras B es (w .once))
+  past-most = ap (mostOf lifeOf) (past-held t w) ∙ moved-most F (stepB F es) [] es (tidy-together w) (no-extras F es (w .once))
 
   -- the test of this interval, and looking ahead from the next
-  pub ahead-step : fitsAhead B es ≡ cond (overfull B es || anyOf (misses (stepB B es)) es) false (fitsAhead B past)
+  pub ahead-step : fitsAhead F es ≡ cond (overfull F es || anyOf (misses (stepB F es)) es) false (fitsAhead F past)
   unfolding fitsAhead goesWell
   ahead-step = go (mostOf lifeOf es) (mostOf lifeOf past) (omega (arith, past-most, held-lives es (tidy-held w) l))
     where
-      go : (n m : ℕ) → n ≡ suc m → goesWell n B es ≡ cond (overfull B es || anyOf (misses (stepB B es)) es) false (goesWell m B past)
+      go : (n m : ℕ) → n ≡ suc m → goesWell n F es ≡ cond (overfull F es || anyOf (misses (stepB F es)) es) false (goesWell m F past)
       go n m q =
-          ap (λ k. goesWell k B es) q
-          ∙ ap (λ fs. cond (overfull B es || anyOf (misses (stepB B es)) es) false (goesWell m B fs)) (sym (past-held t w))
+          ap (λ k. goesWell k F es) q
+          ∙ ap (λ fs. cond (overfull F es || anyOf (misses (stepB F es)) es) false (goesWell m F fs)) (sym (past-held t w))
 
-  pub ahead-misses : (overfull B es || anyOf (misses (stepB B es)) es) ≡ true → fitsAhead B es ≡ false
-  ahead-misses h = ahead-step ∙ ap (λ b. cond b false (fitsAhead B past)) h
+  pub ahead-misses : (overfull F es || anyOf (misses (stepB F es)) es) ≡ true → fitsAhead F es ≡ false
+  ahead-misses h = ahead-step ∙ ap (λ b. cond b false (fitsAhead F past)) h
 
-  pub ahead-turn : overfull B es ≡ false → anyOf (misses (stepB B es)) es ≡ false → fitsAhead B past ≡ fitsAhead B es
-  ahead-turn h k = sym (ahead-step ∙ ap₂ (λ a b. cond (a || b) false (fitsAhead B past)) h k)
+  pub ahead-turn : overfull F es ≡ false → anyOf (misses (stepB F es)) es ≡ false → fitsAhead F past ≡ fitsAhead F es
+  ahead-turn h k = sym (ahead-step ∙ ap₂ (λ a b. cond (a || b) false (fitsAhead F past)) h k)

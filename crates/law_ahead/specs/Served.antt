@@ -10,32 +10,28 @@ use native.Mathlib.Omega.{arith}
 use lib.Dec.{ltb, eqb}
 use borrow.Author.Tests.{eq-eqb, ne-eqb, lt-ltb, le-ltb}
 use Rattle.spec_lists.specs.Lists.{keep, sumOf}
-use Rattle.base_lists.specs.Tests.{clash}
 use Rattle.spec_lists.specs.All.{All}
+use Rattle.base_lists.specs.Tests.{clash}
 use Rattle.base_lists.specs.All.{all-map, all-zip, all-keep, all-of, map-ext}
 use Rattle.base_lists.specs.Sums.{sum-ext, sum-add, sum-keep, sum-map, sum-same}
 use Rattle.spec_model.specs.Entries.{isPiece}
 use Rattle.spec_model.specs.declared.Entry.{Entry}
 use Rattle.spec_model.specs.declared.Table.{Table}
-use Rattle.spec_rules.specs.Share.{load, capacity, sooner}
+use Rattle.spec_model.specs.Tables.{heldOf}
+use Rattle.spec_rules.specs.Share.{sooner}
 use Rattle.spec_rules.specs.Ahead.{standing}
-use Rattle.spec_rules.specs.Calls.{heldOf}
-use Rattle.spec_rules.specs.WellFormed.{Once}
+use Rattle.spec_rules.specs.WellFormed.{Once, Tidy}
 use Rattle.law_steps.specs.Grants.{once-keep}
 use Rattle.law_steps.specs.Order.{sooner-trans}
-use Rattle.law_steps.specs.StepB.{stepBOf, owedBefore, stepB-total, stepB-closed}
+use Rattle.law_steps.specs.StepB.{turnsOf, owedBefore, turns-total, turns-closed}
 use Rattle.law_steps.specs.Held.{held-kinds, piece-of}
-use Rattle.law_steps.specs.Places.{Tidy, tidy-held, held-sum, owed-places}
+use Rattle.law_steps.specs.Places.{tidy-held, held-sum, owed-places}
 use Rattle.law_steps.specs.Closed.{takes, takes-owed, at-places}
 
 -- ---- those before x together take all that they are owed, or all there is
 module _ (c : ℕ) (es : List Entry) (w : Once es) (x : Entry) where
   abbrev fs : List Entry
   fs = keep (λ f. sooner f x) es
-
-  -- an interval of this length has the capacity c for them alone
-  abbrev B : ℕ
-  B = c + load fs
 
   same-before : (f : Entry) → sooner f x ≡ true → owedBefore f fs ≡ owedBefore f es
   same-before f h = sum-keep _ (λ g. sooner g x) es ∙ sum-same _ _ es one
@@ -51,16 +47,16 @@ module _ (c : ℕ) (es : List Entry) (w : Once es) (x : Entry) where
           go false false true k = refl
           go false false false k = refl
 
-  each-before : All (λ f. cond (isPiece f) (stepBOf B fs f) 0 ≡ cond (isPiece f) (takes c es f) 0) fs
+  each-before : All (λ f. cond (isPiece f) (turnsOf c fs f) 0 ≡ cond (isPiece f) (takes c es f) 0) fs
   unfolding takes
   each-before =
       all-zip (λ f h k. go f (isPiece f) (same-before f h) k)
       (all-keep {P = λ f. f ≡ f} (λ f. sooner f x) (λ f h z. h) (all-of es (λ f. refl)))
-      (stepB-closed B fs (once-keep (λ f. sooner f x) es w))
+      (turns-closed c fs (once-keep (λ f. sooner f x) es w))
     where
       go : (f : Entry) (b : Bool) → owedBefore f fs ≡ owedBefore f es
-          → (b ≡ true → stepBOf B fs f ≡ min (f .owed .0) (capacity B fs - owedBefore f fs))
-          → cond b (stepBOf B fs f) 0 ≡ cond b (min (f .owed .0) (c - owedBefore f es)) 0
+          → (b ≡ true → turnsOf c fs f ≡ min (f .owed .0) (c - owedBefore f fs))
+          → cond b (turnsOf c fs f) 0 ≡ cond b (min (f .owed .0) (c - owedBefore f es)) 0
       go f true h k = omega (arith, k refl)
       go f false h k = refl
 
@@ -70,8 +66,8 @@ module _ (c : ℕ) (es : List Entry) (w : Once es) (x : Entry) where
         arith,
         turned (takes c es),
         sum-keep (λ f. cond (isPiece f) (takes c es f) 0) (λ f. sooner f x) es,
-        sum-ext (λ f. cond (isPiece f) (stepBOf B fs f) 0) (λ f. cond (isPiece f) (takes c es f) 0) each-before,
-        stepB-total B fs (once-keep (λ f. sooner f x) es w),
+        sum-ext (λ f. cond (isPiece f) (turnsOf c fs f) 0) (λ f. cond (isPiece f) (takes c es f) 0) each-before,
+        turns-total c fs (once-keep (λ f. sooner f x) es w),
         sum-keep (λ (f : Entry). cond (isPiece f) (f .owed .0) 0) (λ f. sooner f x) es,
         turned (λ f. f .owed .0),
       )

@@ -10,87 +10,84 @@ use native.Mathlib.Nat.{le-of-eq}
 use native.Mathlib.Omega.{arith}
 use lib.ListN.{length, length-map}
 use Rattle.spec_lists.specs.Lists.{one-if, cons-if, keep, sumOf}
-use Rattle.base_lists.specs.Tests.{same-test, within-both}
 use Rattle.spec_lists.specs.All.{All, stop, and}
+use Rattle.base_lists.specs.Tests.{same-test}
 use Rattle.base_lists.specs.All.{head, tail, all-zip, all-of-map, all-kept}
 use Rattle.base_lists.specs.Picked.{Picked, here, there, picked-all, picked-sum}
 use Rattle.base_edf.specs.Time.{span-le}
 use Rattle.base_edf.specs.Edf.{dem}
-use Rattle.spec_model.specs.Entries.{freeEntry, isHeld, isStream}
+use Rattle.spec_model.specs.Entries.{freeEntry, isHeld, isNamed}
 use Rattle.spec_model.specs.declared.Entry.{Entry}
 use Rattle.spec_model.specs.declared.Table.{Table}
-use Rattle.spec_rules.specs.Share.{Grant, slotsFor, stepB}
+use Rattle.spec_model.specs.declared.Frame.{Frame}
+use Rattle.spec_model.specs.Frames.{slotsIn}
+use Rattle.spec_model.specs.Tables.{heldOf, withEntries}
+use Rattle.spec_rules.specs.Share.{Grant, slotsFor, load}
 use Rattle.spec_rules.specs.Ahead.{stepF, fitsAhead}
-use Rattle.spec_rules.specs.Calls.{heldOf, placed}
-use Rattle.spec_rules.specs.WellFormed.{Held, WellFormed}
+use Rattle.spec_rules.specs.Calls.{placed}
+use Rattle.spec_rules.specs.WellFormed.{Held, WellFormed, Tidy}
+use Rattle.law_model.specs.Frames.{frame-some}
 use Rattle.law_steps.specs.Held.{held-is}
 use Rattle.law_steps.specs.Settled.{Granted, settled-held, after-free}
 use Rattle.law_steps.specs.Sources.{sourceOf, loadAt}
-use Rattle.law_steps.specs.StepB.{stepBOf}
-use Rattle.law_steps.specs.Places.{Tidy, formed-tidy, tidy-held}
-use Rattle.law_ahead.specs.Moved.{Together, stepOf, moved, Extras, moved-together}
+use Rattle.law_steps.specs.Places.{tidy-held}
+use Rattle.law_ahead.specs.Moved.{Together, stepOf, moved, MayGive, moved-together}
 use Rattle.law_ahead.specs.Fits.{Fits, spareAt}
 use Rattle.law_ahead.specs.Exact.{ahead-fits, fits-ahead}
 
 -- ---- the held entries of a table
-pub tidy-together : {t : Table} → Tidy t → Together (t .interval .0) (heldOf t)
+pub tidy-together : {t : Table} → Tidy t → Together (t .frame) (heldOf t)
 tidy-together w = record { held = tidy-held w; once = w .once }
 
-pub formed-together : {t : Table} → WellFormed t → Together (t .interval .0) (heldOf t)
-formed-together w = tidy-together (formed-tidy w)
+pub formed-together : {t : Table} → WellFormed t → Together (t .frame) (heldOf t)
+formed-together w = tidy-together (w .tidy)
 
-pub formed-fits : {t : Table} → WellFormed t → Fits (t .interval .0) (heldOf t)
-formed-fits {t} w = ahead-fits (t .interval .0) (heldOf t) (formed-together w) (w .fits)
+pub formed-fits : {t : Table} → WellFormed t → Fits (t .frame) (heldOf t)
+formed-fits {t} w = ahead-fits (t .frame) (heldOf t) (formed-together w) (w .fits)
 
 -- a tidy table whose entries fit is well formed
-pub tidy-formed : {t : Table} → Tidy t → Fits (t .interval .0) (heldOf t) → WellFormed t
+pub tidy-formed : {t : Table} → Tidy t → Fits (t .frame) (heldOf t) → WellFormed t
 tidy-formed {t} w f =
-    record {
-      units = w .units;
-      size = w .size;
-      entries = w .entries;
-      once = w .once;
-      fits = fits-ahead (t .interval .0) (heldOf t) (tidy-together w) f;
-    }
+    record { tidy = w; fits = fits-ahead (t .frame) (heldOf t) (tidy-together w) f }
 
-pub formed-some : {t : Table} → WellFormed t → 1 ≤ t .interval .0
-formed-some w = (let u = within-both 1 1000 (w .units .0) (w .units .1) in omega (arith, w .units .2))
+pub formed-some : {t : Table} → WellFormed t → 1 ≤ slotsIn (t .frame)
+formed-some w = omega (arith, frame-some (w .tidy .setting))
 
 -- ---- entries of which some stand otherwise
 -- entries over which every sum is at most as large
-pub fewer-fits : (B : ℕ) (es fs : List Entry) → ((f : Entry → ℕ) → sumOf f fs ≤ sumOf f es) → Fits B es → Fits B fs
-fewer-fits B es fs less f =
+pub fewer-fits : (F : Frame) (es fs : List Entry) → ((f : Entry → ℕ) → sumOf f fs ≤ sumOf f es) → Fits F es → Fits F fs
+fewer-fits F es fs less f =
     record {
       load = λ t. omega (arith, less (λ e. loadAt e t), f .load t);
       room = λ s d. omega (
         arith,
         less (λ e. dem (sourceOf e) s d),
         f .room s d,
-        span-le (spareAt B es) (spareAt B fs) s d (λ u. omega (arith, less (λ e. loadAt e u))),
+        span-le (spareAt F es) (spareAt F fs) s d (λ u. omega (arith, less (λ e. loadAt e u))),
       );
     }
 
 -- the same entries, one of them elsewhere
-module _ (B : ℕ) {e : Entry} {es fs : List Entry} (k : Picked e es fs) where
-  pub picked-together : Together B (e ∷ fs) → Together B es
+module _ (F : Frame) {e : Entry} {es fs : List Entry} (k : Picked e es fs) where
+  pub picked-together : Together F (e ∷ fs) → Together F es
   picked-together w =
       record {
         held = picked-all k (head (w .held)) (tail (w .held));
-        once = λ s. omega (arith, w .once s, picked-sum (λ (f : Entry). one-if (isStream s f)) k);
+        once = λ s. omega (arith, w .once s, picked-sum (λ (f : Entry). one-if (isNamed s f)) k);
       }
 
-  pub picked-fits : Fits B (e ∷ fs) → Fits B es
-  picked-fits = fewer-fits B (e ∷ fs) es (λ f. le-of-eq (picked-sum f k))
+  pub picked-fits : Fits F (e ∷ fs) → Fits F es
+  picked-fits = fewer-fits F (e ∷ fs) es (λ f. le-of-eq (picked-sum f k))
 
-  pub picked-back : Fits B es → Fits B (e ∷ fs)
-  picked-back = fewer-fits B es (e ∷ fs) (λ f. le-of-eq (sym (picked-sum f k)))
+  pub picked-back : Fits F es → Fits F (e ∷ fs)
+  picked-back = fewer-fits F es (e ∷ fs) (λ f. le-of-eq (sym (picked-sum f k)))
 
   -- looking ahead says the same of both
-  pub picked-ahead : Together B (e ∷ fs) → fitsAhead B es ≡ fitsAhead B (e ∷ fs)
+  pub picked-ahead : Together F (e ∷ fs) → fitsAhead F es ≡ fitsAhead F (e ∷ fs)
   picked-ahead w =
       let p = picked-together w in
-      same-test (fitsAhead B es) (fitsAhead B (e ∷ fs)) (λ h. fits-ahead B (e ∷ fs) w (picked-back (ahead-fits B es p h)))
-      (λ h. fits-ahead B es p (picked-fits (ahead-fits B (e ∷ fs) w h)))
+      same-test (fitsAhead F es) (fitsAhead F (e ∷ fs)) (λ h. fits-ahead F (e ∷ fs) w (picked-back (ahead-fits F es p h)))
+      (λ h. fits-ahead F es p (picked-fits (ahead-fits F (e ∷ fs) w h)))
 
 -- ---- a new entry in a free place
 pub placed-all : {P : Entry → Type 0} (e : Entry) → P e → {es : List Entry} → All P es → All P (placed e es)
@@ -136,40 +133,40 @@ keep-free {P} f z (and {x = e} {xs = es} p r) h = go p (keep-free f z r h)
     go (inl q) ih = rw (q, z) ih
     go (inr q) ih = rw (h e q) (ap (cons-if (isHeld (f e)) (f e)) ih)
 
--- ---- every place over an interval, in which the extras are cs
-abbrev pub stepped : List Grant → Table → Table
-stepped cs t = record { interval = t .interval; entries = stepF (stepB (t .interval .0) (heldOf t)) cs (t .entries) }
+-- ---- every place over an interval that gave bs and cs
+abbrev pub stepped : (bs cs : List Grant) → Table → Table
+stepped bs cs t = withEntries t (stepF bs cs (t .entries))
 
-module _ (cs : List Grant) (t : Table) (w : Tidy t) where
-  abbrev B : ℕ
-  B = t .interval .0
+module _ (bs cs : List Grant) (t : Table) (w : Tidy t) where
+  abbrev F : Frame
+  F = t .frame
 
   abbrev es : List Entry
   es = heldOf t
 
   abbrev steps : Entry → Entry
-  steps = stepOf B cs es
+  steps = stepOf bs cs
 
-  pub stepped-held : heldOf (stepped cs t) ≡ moved B cs es
+  pub stepped-held : heldOf (stepped bs cs t) ≡ moved bs cs es
   unfolding stepF
   stepped-held = keep-free steps (after-free _ _) (w .entries) (λ e h. held-is h)
 
-  stepped-entries : Extras B cs es → All (λ e. (e ≡ freeEntry) ⊎ Held B e) (map steps (t .entries))
+  stepped-entries : MayGive bs cs es → All (λ e. (e ≡ freeEntry) ⊎ Held F e) (map steps (t .entries))
   stepped-entries x =
       all-of-map steps
-      (all-zip one (w .entries) (all-kept (λ e. Granted (stepBOf B es e) (slotsFor (e .stream) cs) e) isHeld (t .entries) x))
+      (all-zip one (w .entries) (all-kept (λ e. Granted (slotsFor (e .name) bs) (slotsFor (e .name) cs) e) isHeld (t .entries) x))
     where
-      one : (e : Entry) → (e ≡ freeEntry) ⊎ Held B e → (isHeld e ≡ true → Granted (stepBOf B es e) (slotsFor (e .stream) cs) e)
-          → (steps e ≡ freeEntry) ⊎ Held B (steps e)
+      one : (e : Entry) → (e ≡ freeEntry) ⊎ Held F e → (isHeld e ≡ true → Granted (slotsFor (e .name) bs) (slotsFor (e .name) cs) e)
+          → (steps e ≡ freeEntry) ⊎ Held F (steps e)
       one e (inl q) g = inl (ap steps q ∙ after-free _ _)
-      one e (inr h) g = ⊎-elim inl (λ r. inr (r .1)) (settled-held B _ _ e h (g (held-is h)))
+      one e (inr h) g = ⊎-elim inl (λ r. inr (r .1)) (settled-held F _ _ e h (g (held-is h)))
 
-  pub stepped-tidy : Extras B cs es → Tidy (stepped cs t)
+  pub stepped-tidy : MayGive bs cs es → Tidy (stepped bs cs t)
   unfolding stepF
   stepped-tidy x =
       record {
-        units = w .units;
+        setting = w .setting;
         size = length-map (t .entries) steps ∙ w .size;
         entries = stepped-entries x;
-        once = subst (Together B) (sym stepped-held) (moved-together B cs es (tidy-together w) x) .once;
+        once = subst (Together F) (sym stepped-held) (moved-together F bs cs es (tidy-together w) x) .once;
       }

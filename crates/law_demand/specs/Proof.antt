@@ -3,86 +3,84 @@
 use mathlib.Core.Path.{_≡_, refl, sym, ap, ap₂, subst, _∙_}
 use mathlib.Core.Logic.{_⊎_, inl, inr, ⊎-elim}
 use mathlib.Core.Bool.{Bool, true, false, cond, not}
-use mathlib.Core.List.{List, [], _∷_, _++_, map}
-use Prim.Native.Nat.{ℕ, _*_, _≤_, zero-le}
+use mathlib.Core.List.{List, [], _∷_, _++_}
+use Prim.Native.Nat.{_*_, _≤_, zero-le}
 use native.Mathlib.Omega.{arith}
 use lib.Dec.{ltb, leb, eqb}
 use lib.ListN.{length, drop}
-use Rattle.spec_lists.specs.Lists.{within, anyOf}
+use Rattle.spec_lists.specs.Lists.{anyOf}
 use Rattle.spec_lists.specs.All.{All, stop, and}
 use Rattle.base_lists.specs.All.{head, tail, all-append}
 use Rattle.base_lists.specs.Picked.{done, paired-length, paired-with, paired-left, paired-right, paired-any}
 use Rattle.spec_model.specs.Requests.{check, refusal}
-use Rattle.spec_model.specs.Entries.{freeEntry, entryOf, isStream}
-use Rattle.spec_model.specs.declared.Entry.{Entry}
+use Rattle.spec_model.specs.Names.{same}
+use Rattle.spec_model.specs.Entries.{entryOf, isNamed}
+use Rattle.spec_model.specs.Tables.{mostHeld, heldOf, withEntries}
+use Rattle.spec_model.specs.declared.Frame.{Frame}
+use Rattle.spec_model.specs.declared.Name.{Name}
+use Rattle.spec_model.specs.declared.Setting.{Setting}
 use Rattle.spec_model.specs.declared.Request.{Request}
 use Rattle.spec_model.specs.declared.Table.{Table}
 use Rattle.spec_demand.specs.Assignment.{Assignment}
-use Rattle.spec_rules.specs.Calls.{places, recordWords, mostRecords, opened, heldOf, holds, offerAnswer, placed, offered, heldAnswer, withdrawn}
+use Rattle.spec_rules.specs.Settings.{Succeeds, frameOf, opened}
+use Rattle.spec_rules.specs.Records.{recordWords, planWords, recordsOf}
+use Rattle.spec_rules.specs.Calls.{holds, offerAnswer, placed, offered, heldAnswer, freed, withdrawn}
 use Rattle.spec_rules.specs.Calls.{planOf, advanced, refusedBeacon, plannedBeacon, beacon}
+use Rattle.law_model.specs.Records.{records-back}
 use Rattle.law_steps.specs.Offers.{offerChecksBut, isFull, hasTime, offer-refused, offer-passed, answer-passed}
 use Rattle.law_ahead.specs.Tables.{formed-together}
 use Rattle.law_ahead.specs.Formed.{opened-formed, passed-held}
 use Rattle.law_exact.specs.Offer.{offer-served, offer-hopeless}
-use Rattle.spec_demand.specs.History.{Call, Offer, Withdraw, Beacon, recordsOf, seen, after, history, tableAfter, answerSeen, lastSeen}
+use Rattle.spec_demand.specs.History.{Call, Offer, Withdraw, Beacon, answerOn, planOn, seen, after, history, tableAfter}
 use Rattle.spec_demand.specs.Ledger.{Ledger, begins, isOf, note, noteAll, noAdmission, ledgerOf}
 use Rattle.spec_demand.specs.Demand.{timesGiven, Kept, Serves, offerChecks, Right, GivenOnce, answerTo, ServesAll, seenOf, seenNext, Claim}
 use Rattle.law_demand.specs.Link.{same-fields, begins-linked}
 use Rattle.law_demand.specs.Serving.{serves-entry, entry-serves}
-use Rattle.law_demand.specs.Planned.{records-back, plan-once}
+use Rattle.law_demand.specs.Planned.{plan-once}
 use Rattle.law_demand.specs.Keeps.{Stands, call-stands}
 
 -- ---- along the list
 -- no call changes the interval
-interval-kept : (t : Table) (c : Call) → after t c .interval .0 ≡ t .interval .0
+frame-kept : (t : Table) (c : Call) → after t c .frame ≡ t .frame
 unfolding after offered withdrawn beacon advanced
-interval-kept t (Offer q) = same (eqb (offerAnswer t q) 0)
+frame-kept t (Offer q) = either (eqb (offerAnswer t q) 0)
   where
-    same : (b : Bool)
-        → cond b (record { interval = t .interval; entries = placed (entryOf q) (t .entries) }) t .interval .0 ≡ t .interval .0
-    same true = refl
-    same false = refl
-interval-kept t (Withdraw s) = same (holds t s)
+    either : (b : Bool) → cond b (withEntries t (placed (entryOf q) (t .entries))) t .frame ≡ t .frame
+    either true = refl
+    either false = refl
+frame-kept t (Withdraw n) = either (holds t n)
   where
-    same : (b : Bool)
-        → cond b (record { interval = t .interval; entries = map (λ (e : Entry). cond (isStream s e) freeEntry e) (t .entries) }) t
-        .interval .0 ≡ t .interval .0
-    same true = refl
-    same false = refl
-interval-kept t (Beacon ws) = same (ltb (length ws) (recordWords * mostRecords))
+    either : (b : Bool) → cond b (withEntries t (freed n (t .entries))) t .frame ≡ t .frame
+    either true = refl
+    either false = refl
+frame-kept t (Beacon ws) = either (ltb (length ws) planWords)
   where
-    same : (b : Bool) → cond b (refusedBeacon t ws) (plannedBeacon t ws (planOf t)) .table .interval .0 ≡ t .interval .0
-    same true = refl
-    same false = refl
+    either : (b : Bool) → cond b (refusedBeacon t ws) (plannedBeacon t ws (planOf t)) .table .frame ≡ t .frame
+    either true = refl
+    either false = refl
 
-interval-along : (t : Table) (cs : List Call) → tableAfter t cs .interval .0 ≡ t .interval .0
+frame-along : (t : Table) (cs : List Call) → tableAfter t cs .frame ≡ t .frame
 unfolding tableAfter
-interval-along t [] = refl
-interval-along t (c ∷ cs) = interval-along (after t c) cs ∙ interval-kept t c
+frame-along t [] = refl
+frame-along t (c ∷ cs) = frame-along (after t c) cs ∙ frame-kept t c
 
 along : (cs : List Call) (l : Ledger) (t : Table) → Stands l t → Stands (noteAll l (history t cs)) (tableAfter t cs)
 unfolding noteAll history tableAfter
 along [] l t v = v
 along (c ∷ cs) l t v = along cs (note l (seen t c)) (after t c) (call-stands l t v c)
 
-last-seen : (cs : List Call) (t : Table) (c : Call) → lastSeen (history t (cs ++ (c ∷ []))) ≡ seen (tableAfter t cs) c
-unfolding history tableAfter
-last-seen [] t c = refl
-last-seen (d ∷ []) t c = refl
-last-seen (d ∷ e ∷ cs) t c = last-seen (e ∷ cs) (after t d) c
-
 once-each : (t : Table) (c : Call) → GivenOnce (seen t c)
-unfolding seen beacon planOf timesGiven recordsOf
+unfolding planOn beacon planOf timesGiven recordsOf
 once-each t (Offer q) x = zero-le
-once-each t (Withdraw s) x = zero-le
-once-each t (Beacon ws) x = omega (arith, go (ltb (length ws) (recordWords * mostRecords)))
+once-each t (Withdraw n) x = zero-le
+once-each t (Beacon ws) x = omega (arith, go (ltb (length ws) planWords))
   where
     go : (b : Bool)
         → (let r = cond b (refusedBeacon t ws) (plannedBeacon t ws (planOf t)) in timesGiven x (recordsOf (r .count) (r .words)) ≤ 1)
     go true = zero-le
     go false =
         subst (λ rs. timesGiven x rs ≤ 1) (sym (records-back (planOf t) (drop (recordWords * length (planOf t)) ws)))
-        (plan-once (t .interval .0) (heldOf t) x)
+        (plan-once (t .frame) (heldOf t) x)
 
 once-all : (cs : List Call) (t : Table) → All GivenOnce (history t cs)
 unfolding history
@@ -91,18 +89,18 @@ once-all (c ∷ cs) t = and (once-each t c) (once-all cs (after t c))
 
 -- ---- a call that follows
 module _ (l : Ledger) (t : Table) (v : Stands l t) where
-  abbrev B : ℕ
-  B = t .interval .0
+  abbrev F : Frame
+  F = t .frame
 
-  -- the admissions hold a stream where the table does, and as many
-  held-same : (s : ℕ) → anyOf (isOf s) (l .held) ≡ holds t s
-  held-same s = paired-any (isOf s) (isStream s) (λ h e r. ap (λ n. eqb n s) (sym (same-fields e (r .request) .stream))) (v .paired)
+  -- the admissions hold a name where the table does, and as many
+  held-same : (n : Name) → anyOf (isOf n) (l .held) ≡ holds t n
+  held-same n = paired-any (isOf n) (isNamed n) (λ h e r. ap (λ m. same m n) (sym (same-fields e (r .request) .name))) (v .paired)
 
-  checks-same : (q : Request) → offerChecks B l q ≡ offerChecksBut (holds t (q .stream)) (isFull t q) B q
+  checks-same : (q : Request) → offerChecks F l q ≡ offerChecksBut (holds t (q .name)) (isFull t q) F q
   unfolding offerChecks
-  checks-same q = ap₂ (λ a n. offerChecksBut a (leb places n) B q) (held-same (q .stream)) (paired-length (v .paired))
+  checks-same q = ap₂ (λ a n. offerChecksBut a (leb mostHeld n) F q) (held-same (q .name)) (paired-length (v .paired))
 
-  zero-or : (q : Request) → refusal (offerChecksBut (holds t (q .stream)) (isFull t q) B q) ≡ 0
+  zero-or : (q : Request) → refusal (offerChecksBut (holds t (q .name)) (isFull t q) F q) ≡ 0
       → (offerAnswer t q ≡ 0) ⊎ (offerAnswer t q ≡ 17)
   zero-or q h = go (hasTime t q) (offer-passed t q h)
     where
@@ -110,90 +108,83 @@ module _ (l : Ledger) (t : Table) (v : Stands l t) where
       go true z = inl z
       go false z = inr z
 
-  pub answer-right : (c : Call) → Right B l (seen t c)
-  unfolding seen heldAnswer beacon refusal
+  pub answer-right : (c : Call) → Right F l (seen t c)
+  unfolding answerOn heldAnswer beacon refusal
   answer-right (Offer q) = rw (checks-same q) (offer-refused t q, zero-or q)
-  answer-right (Withdraw s) = ap (λ b. refusal (check 20 (not b) ∷ [])) (sym (held-same s))
-  answer-right (Beacon ws) = go (ltb (length ws) (recordWords * mostRecords))
+  answer-right (Withdraw n) = ap (λ b. refusal (check 20 (not b) ∷ [])) (sym (held-same n))
+  answer-right (Beacon ws) = go (ltb (length ws) planWords)
     where
       go : (b : Bool) → cond b (refusedBeacon t ws) (plannedBeacon t ws (planOf t)) .answer ≡ cond b 30 0
       go true = refl
       go false = refl
 
   -- ---- lack of time
-  pub served : (q : Request) → offerAnswer t q ≡ 0 → (a : Assignment) × All (Serves B a) (begins q ∷ l .held)
+  pub served : (q : Request) → offerAnswer t q ≡ 0 → (a : Assignment) × All (Serves F a) (begins q ∷ l .held)
   served q z =
       let h = answer-passed t q (inl z) in
       let s = offer-served t (v .formed) q h z in
       let pairs = paired-with (paired-with (v .paired) (v .kept) (formed-together (v .formed) .held)) (v .kept) (tail (s .1)) in (
         s .0,
-        and (entry-serves (passed-held t (v .formed) q h) (begins-linked B q) (head (s .1)))
+        and (entry-serves (passed-held t (v .formed) q h) (begins-linked F q) (head (s .1)))
             (paired-left pairs (λ x e r. entry-serves (r .0 .2) (r .0 .0) (r .2))),
       )
 
-  pub hopeless : (q : Request) → offerAnswer t q ≡ 17 → (a : Assignment) → All (Serves B a) (begins q ∷ l .held) → ⊥
+  pub hopeless : (q : Request) → offerAnswer t q ≡ 17 → (a : Assignment) → All (Serves F a) (begins q ∷ l .held) → ⊥
   hopeless q z a s =
       let h = answer-passed t q (inr z) in
       let pairs = paired-with (v .paired) (tail s) (formed-together (v .formed) .held) in
       offer-hopeless t (v .formed) q h z a
-      (and (serves-entry (passed-held t (v .formed) q h) (begins-linked B q) (head s))
+      (and (serves-entry (passed-held t (v .formed) q h) (begins-linked F q) (head s))
       (paired-right pairs (λ x e r. serves-entry (r .2) (r .0) (r .1))))
 
 -- ---- the theorem
-start : (u : ℕ) → within 1 1000 u ≡ true → Stands noAdmission (opened u)
+start : (s : Setting) → Succeeds s → Stands noAdmission (opened s)
 unfolding opened
-start u h = record { formed = opened-formed u h; paired = done; kept = stop; past = stop }
+start s h = record { formed = opened-formed s h; paired = done; kept = stop; past = stop }
 
-module _ (u : ℕ) (h : within 1 1000 u ≡ true) (cs : List Call) where
+module _ (s : Setting) (h : Succeeds s) (cs : List Call) where
   abbrev reached : Table
-  reached = tableAfter (opened u) cs
+  reached = tableAfter (opened s) cs
 
   abbrev ledger : Ledger
-  ledger = ledgerOf (seenOf u cs)
+  ledger = ledgerOf (seenOf s cs)
 
   pub reached-stands : Stands ledger reached
-  reached-stands = along cs noAdmission (opened u) (start u h)
+  reached-stands = along cs noAdmission (opened s) (start s h)
 
-  slots : reached .interval .0 ≡ 1024 * u
+  frame-is : reached .frame ≡ frameOf s
   unfolding opened
-  slots = interval-along (opened u) cs
+  frame-is = frame-along (opened s) cs
 
-  -- the answer to an offer that follows
-  answer-next : (q : Request) → answerTo (seenNext u cs) q ≡ offerAnswer reached q
-  unfolding seen
-  answer-next q = ap answerSeen (last-seen cs (opened u) (Offer q))
+  right-next : (c : Call) → Right (frameOf s) ledger (seen reached c)
+  right-next c = subst (λ F. Right F ledger (seen reached c)) frame-is (answer-right ledger reached reached-stands c)
 
-  right-next : (c : Call) → Right (1024 * u) ledger (seen reached c)
-  right-next c = subst (λ B. Right B ledger (seen reached c)) slots (answer-right ledger reached reached-stands c)
-
-  served-next : (q : Request) → answerTo (seenNext u cs) q ≡ 0 → (a : Assignment) × ServesAll (1024 * u) (seenOf u cs) q a
+  served-next : (q : Request) → answerTo (seenNext s cs) q ≡ 0 → (a : Assignment) × ServesAll (frameOf s) (seenOf s cs) q a
+  unfolding answerOn
   served-next q z =
-      subst (λ B. (a : Assignment) × All (Serves B a) (begins q ∷ ledger .held)) slots
-      (served ledger reached reached-stands q (sym (answer-next q) ∙ z))
+      subst (λ F. (a : Assignment) × All (Serves F a) (begins q ∷ ledger .held)) frame-is (served ledger reached reached-stands q z)
 
-  hopeless-next : (q : Request) → answerTo (seenNext u cs) q ≡ 17 → (a : Assignment) → ServesAll (1024 * u) (seenOf u cs) q a → ⊥
-  hopeless-next q z a s =
-      hopeless ledger reached reached-stands q (sym (answer-next q) ∙ z) a
-      (subst (λ B. All (Serves B a) (begins q ∷ ledger .held)) (sym slots) s)
+  hopeless-next : (q : Request) → answerTo (seenNext s cs) q ≡ 17 → (a : Assignment) → ServesAll (frameOf s) (seenOf s cs) q a → ⊥
+  unfolding answerOn
+  hopeless-next q z a r =
+      hopeless ledger reached reached-stands q z a (subst (λ F. All (Serves F a) (begins q ∷ ledger .held)) (sym frame-is) r)
 
 pub demand3 : Claim
-unfolding seen
-demand3 u h cs =
+demand3 s h cs =
     record {
-      kept = subst (λ B. All (Kept B) (ledger u h cs .held ++ ledger u h cs .past)) (slots u h cs) (all-append (v .kept) (v .past));
-      once = once-all cs (opened u);
-      answers = λ c. rw (last-seen cs (opened u) c) (right-next u h cs c);
-      accepted = served-next u h cs;
-      refused = hopeless-next u h cs;
+      kept = subst (λ F. All (Kept F) (ledger s h cs .held ++ ledger s h cs .past)) (frame-is s h cs) (all-append (v .kept) (v .past));
+      once = once-all cs (opened s);
+      answers = right-next s h cs;
+      accepted = served-next s h cs;
+      refused = hopeless-next s h cs;
       exact = λ q p. (
-        hopeless-next u h cs q,
-        λ f. ⊎-elim (λ z. absurd (refute f (served-next u h cs q (answer-next u h cs q ∙ z)))) (λ z. answer-next u h cs q ∙ z)
-            (right-next u h cs (Offer q) .1 p),
+        hopeless-next s h cs q,
+        λ f. ⊎-elim (λ z. absurd (refute f (served-next s h cs q z))) (λ z. z) (right-next s h cs (Offer q) .1 p),
       );
     }
   where
-    v : Stands (ledger u h cs) (reached u h cs)
-    v = reached-stands u h cs
+    v : Stands (ledger s h cs) (reached s h cs)
+    v = reached-stands s h cs
 
     refute : {P : Assignment → Type 0} → ((a : Assignment) → P a → ⊥) → (a : Assignment) × P a → ⊥
     refute f x = f (x .0) (x .1)

@@ -5,21 +5,26 @@ use mathlib.Core.Logic.{_⊎_, inl, inr, _≢_}
 use mathlib.Core.Bool.{cond}
 use mathlib.Core.List.{List}
 use mathlib.Core.Option.{Option, none, some}
-use Prim.Native.Nat.{ℕ, suc, _+_, _*_, _/_, _≤_, _<_}
+use Prim.Native.Nat.{ℕ, suc, _+_, _*_, _≤_, _<_}
 use native.Mathlib.Nat.{suc-mul, mul-comm, mul-le-mul-right, le-of-mul-le-mul-right}
 use native.Mathlib.Decide.{decLe}
 use native.Mathlib.Omega.{arith}
 use Rattle.spec_lists.specs.Lists.{one-if, sumOf, span}
-use Rattle.base_lists.specs.Tests.{eqb-sym, cond-le}
+use Rattle.base_lists.specs.Tests.{cond-le}
 use Rattle.spec_lists.specs.All.{All}
 use Rattle.base_lists.specs.All.{all-zip, all-of}
 use Rattle.base_lists.specs.Sums.{sum-same, sum-le, sum-add, sum-zero}
 use Rattle.base_edf.specs.Time.{due-in, due-out, span-le, span-ones, span-sum, span-parts}
 use Rattle.base_edf.specs.Edf.{source}
 use Rattle.base_edf.specs.Necessity.{Fed, fed-room, fed-gone}
-use Rattle.spec_model.specs.Entries.{isStream, isPiece}
+use Rattle.spec_model.specs.Frames.{slotsIn, roomIn, partOf}
+use Rattle.spec_model.specs.Entries.{isNamed, isPiece, asks}
+use Rattle.spec_model.specs.declared.Frame.{Frame}
+use Rattle.spec_model.specs.declared.Name.{Name}
 use Rattle.spec_model.specs.declared.Entry.{Entry}
 use Rattle.spec_rules.specs.WellFormed.{Held, Once}
+use Rattle.law_model.specs.Frames.{room-slots}
+use Rattle.law_model.specs.Names.{same-sym}
 use Rattle.law_steps.specs.Held.{Fraction, Piece, held-kinds, piece-of, piece-other, other-piece, not-fraction, fraction-not}
 use Rattle.law_steps.specs.Sources.{sourceOf, loadAt, fraction-source, piece-source, load-none, load-fraction}
 use Rattle.law_ahead.specs.Moved.{Together}
@@ -28,23 +33,23 @@ use Rattle.spec_demand.specs.Assignment.{Assignment, isTo, assigned}
 use Rattle.law_exact.specs.Entries.{ServesEntry}
 
 -- the slots of coming interval t that go to an entry
-abbrev pub slotsTo : ℕ → Assignment → Entry → ℕ → ℕ
-slotsTo B a e t = assigned a (e .stream) t 0 B
+abbrev pub slotsTo : Frame → Assignment → Entry → ℕ → ℕ
+slotsTo F a e t = assigned a (e .name) t 0 (slotsIn F)
 
 -- what the assignment owes an entry, in the terms of the theory
-pub record Fair (B : ℕ) (a : Assignment) (e : Entry) : Type 0 where
+pub record Fair (F : Frame) (a : Assignment) (e : Entry) : Type 0 where
   pub fractions :
       e .kind ≡ 1 → (k j : ℕ) → k < e .«life_left» .0 → j < e .parts
-      → e .min .0 ≤ assigned a (e .stream) k (j * (B / e .parts)) (suc j * (B / e .parts))
-  pub piece : e .kind ≢ 1 → Fed (sourceOf e) (slotsTo B a e)
+      → asks e ≤ assigned a (e .name) k (j * (partOf F (e .parts))) (suc j * (partOf F (e .parts)))
+  pub piece : e .kind ≢ 1 → Fed (sourceOf e) (slotsTo F a e)
 
 -- ---- the two ways to say it
 -- the end of later period k, in its two spellings
 at-end : (p l k : ℕ) → l + suc k * p ≡ l + k * p + p
 at-end p l k = omega (arith, suc-mul k p)
 
-module _ {B : ℕ} {a : Assignment} {e : Entry} (h : Held B e) where
-  pub entry-fair : ServesEntry B a e → Fair B a e
+module _ {F : Frame} {a : Assignment} {e : Entry} (h : Held F e) where
+  pub entry-fair : ServesEntry F a e → Fair F a e
   entry-fair s =
       record {
         fractions = s .fractions;
@@ -56,7 +61,7 @@ module _ {B : ℕ} {a : Assignment} {e : Entry} (h : Held B e) where
             ));
       }
 
-  pub fair-entry : Fair B a e → ServesEntry B a e
+  pub fair-entry : Fair F a e → ServesEntry F a e
   fair-entry s =
       record {
         fractions = s .fractions;
@@ -67,82 +72,84 @@ module _ {B : ℕ} {a : Assignment} {e : Entry} (h : Held B e) where
       }
     where
       fed : (n : e .kind ≢ 1)
-          → Fed (source (e .owed .0) (e .left .0) (e .min .0) (e .period .0) (other-piece h n .following)) (slotsTo B a e)
+          → Fed (source (e .owed .0) (e .left .0) (asks e) (e .period .0) (other-piece h n .following)) (slotsTo F a e)
       fed n = rw (piece-source (other-piece h n)) at (s .piece n)
 
 -- ---- each slot has one taker
-taker : (s : Option ℕ) (es : List Entry) → Once es → sumOf (λ (e : Entry). one-if (isTo (e .stream) s)) es ≤ 1
+taker : (s : Option Name) (es : List Entry) → Once es → sumOf (λ (e : Entry). one-if (isTo (e .name) s)) es ≤ 1
 taker none es w = omega (arith, sum-zero (λ (e : Entry). 0) (all-of es (λ e. refl)))
 taker (some x) es w =
     omega (
       arith,
       w x,
-      sum-same (λ (e : Entry). one-if (isTo (e .stream) (some x))) (λ (e : Entry). one-if (isStream x e)) es
-          (λ e. ap one-if (eqb-sym x (e .stream))),
+      sum-same (λ (e : Entry). one-if (isTo (e .name) (some x))) (λ (e : Entry). one-if (isNamed x e)) es
+          (λ e. ap one-if (same-sym x (e .name))),
     )
 
-module _ (B : ℕ) (a : Assignment) where
-  takers : (t : ℕ) (es : List Entry) → Once es → sumOf (λ e. slotsTo B a e t) es ≤ B
+module _ (F : Frame) (a : Assignment) where
+  -- so of an interval they have no more than may be given
+  takers : (t : ℕ) (es : List Entry) → Once es → sumOf (λ e. slotsTo F a e t) es ≤ roomIn F
   unfolding assigned
   takers t es w =
       omega (
         arith,
-        span-sum (λ (e : Entry) z. one-if (isTo (e .stream) (a t z))) es 0 B,
-        span-le (λ z. sumOf (λ (e : Entry). one-if (isTo (e .stream) (a t z))) es) (λ z. 1) 0 B (λ z. taker (a t z) es w),
-        span-ones 0 B,
+        span-sum (λ (e : Entry) z. one-if (isTo (e .name) (a t z))) es 0 (slotsIn F),
+        span-le (λ z. sumOf (λ (e : Entry). one-if (isTo (e .name) (a t z))) es) (λ z. 1) 0 (slotsIn F) (λ z. taker (a t z) es w),
+        span-ones 0 (slotsIn F),
+        room-slots F,
       )
 
   -- kind 1 takes its load, and the others have what they have
-  shares : (e : Entry) → Held B e → Fair B a e → (t : ℕ) → loadAt e t + cond (isPiece e) (slotsTo B a e t) 0 ≤ slotsTo B a e t
+  shares : (e : Entry) → Held F e → Fair F a e → (t : ℕ) → loadAt e t + cond (isPiece e) (slotsTo F a e t) 0 ≤ slotsTo F a e t
   unfolding assigned
   shares e h s t = go (held-kinds h)
     where
       T : ℕ
-      T = B / e .parts
+      T = partOf F (e .parts)
 
-      go : Fraction B e ⊎ Piece B e → loadAt e t + cond (isPiece e) (slotsTo B a e t) 0 ≤ slotsTo B a e t
+      go : Fraction F e ⊎ Piece F e → loadAt e t + cond (isPiece e) (slotsTo F a e t) 0 ≤ slotsTo F a e t
       go (inl f) =
           elim (decLe (suc t) (e .«life_left» .0)) [
             | yes q ↦ omega (
               arith,
               load-fraction e t (f .kind),
-              due-in (suc t) (e .«life_left» .0) (e .parts * e .min .0) q,
-              ap (λ b. cond b (slotsTo B a e t) 0) (fraction-not e (f .kind)),
-              span-parts (e .parts) T (e .min .0) (λ z. one-if (isTo (e .stream) (a t z))) (λ j i. s .fractions (f .kind) t j q i),
-              ap (λ v. span (λ z. one-if (isTo (e .stream) (a t z))) 0 v) (mul-comm (e .parts) T ∙ f .whole),
+              due-in (suc t) (e .«life_left» .0) (e .parts * asks e) q,
+              ap (λ b. cond b (slotsTo F a e t) 0) (fraction-not e (f .kind)),
+              span-parts (e .parts) T (asks e) (λ z. one-if (isTo (e .name) (a t z))) (λ j i. s .fractions (f .kind) t j q i),
+              ap (λ v. span (λ z. one-if (isTo (e .name) (a t z))) 0 v) (mul-comm (e .parts) T ∙ f .whole),
             )
             | no q ↦ omega (
               arith,
               load-fraction e t (f .kind),
-              due-out (suc t) (e .«life_left» .0) (e .parts * e .min .0) (omega arith),
-              ap (λ b. cond b (slotsTo B a e t) 0) (fraction-not e (f .kind)),
+              due-out (suc t) (e .«life_left» .0) (e .parts * asks e) (omega arith),
+              ap (λ b. cond b (slotsTo F a e t) 0) (fraction-not e (f .kind)),
             )
           ]
-      go (inr p) = omega (arith, load-none e t (not-fraction e (p .kind)), cond-le (isPiece e) (slotsTo B a e t))
+      go (inr p) = omega (arith, load-none e t (not-fraction e (p .kind)), cond-le (isPiece e) (slotsTo F a e t))
 
-  pub fair-fits : (es : List Entry) → Together B es → All (Fair B a) es → Fits B es
+  pub fair-fits : (es : List Entry) → Together F es → All (Fair F a) es → Fits F es
   fair-fits es w h =
       record {
         load = λ t. omega (arith, both t);
-        room = fed-room sourceOf (λ e t. cond (isPiece e) (slotsTo B a e t) 0) _ (λ t. omega (arith, both t)) (all-zip feeds (w .held) h);
+        room = fed-room sourceOf (λ e t. cond (isPiece e) (slotsTo F a e t) 0) _ (λ t. omega (arith, both t)) (all-zip feeds (w .held) h);
       }
     where
       -- the loads and what the pieces have of an interval fit it
-      both : (t : ℕ) → loadsAt es t + sumOf (λ e. cond (isPiece e) (slotsTo B a e t) 0) es ≤ B
+      both : (t : ℕ) → loadsAt es t + sumOf (λ e. cond (isPiece e) (slotsTo F a e t) 0) es ≤ roomIn F
       both t =
           omega (
             arith,
-            sum-add (λ e. loadAt e t) (λ e. cond (isPiece e) (slotsTo B a e t) 0) es,
-            sum-le (λ e. loadAt e t + cond (isPiece e) (slotsTo B a e t) 0) (λ e. slotsTo B a e t)
+            sum-add (λ e. loadAt e t) (λ e. cond (isPiece e) (slotsTo F a e t) 0) es,
+            sum-le (λ e. loadAt e t + cond (isPiece e) (slotsTo F a e t) 0) (λ e. slotsTo F a e t)
                 (all-zip (λ e d s. shares e d s t) (w .held) h),
             takers t es (w .once),
           )
 
-      feeds : (e : Entry) → Held B e → Fair B a e → Fed (sourceOf e) (λ t. cond (isPiece e) (slotsTo B a e t) 0)
+      feeds : (e : Entry) → Held F e → Fair F a e → Fed (sourceOf e) (λ t. cond (isPiece e) (slotsTo F a e t) 0)
       feeds e d s = go (held-kinds d)
         where
-          go : Fraction B e ⊎ Piece B e → Fed (sourceOf e) (λ t. cond (isPiece e) (slotsTo B a e t) 0)
+          go : Fraction F e ⊎ Piece F e → Fed (sourceOf e) (λ t. cond (isPiece e) (slotsTo F a e t) 0)
           go (inl f) = rw (fraction-source e (f .kind)) (fed-gone _)
           go (inr p) =
-              subst (Fed (sourceOf e)) (fun-ext (λ t. sym (ap (λ b. cond b (slotsTo B a e t) 0) (piece-of e (p .kind)))))
+              subst (Fed (sourceOf e)) (fun-ext (λ t. sym (ap (λ b. cond b (slotsTo F a e t) 0) (piece-of e (p .kind)))))
               (s .piece (piece-other p))

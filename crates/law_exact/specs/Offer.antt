@@ -2,14 +2,15 @@
 -- entries and the offered request; 17, and then none does. Assumes nothing.
 use mathlib.Core.Path.{_≡_}
 use mathlib.Core.List.{_∷_}
-use Prim.Native.Nat.{ℕ}
 use Rattle.base_lists.specs.Tests.{clash}
 use Rattle.spec_lists.specs.All.{All}
 use Rattle.spec_model.specs.Requests.{refusal}
 use Rattle.spec_model.specs.Entries.{entryOf}
+use Rattle.spec_model.specs.Tables.{heldOf}
+use Rattle.spec_model.specs.declared.Frame.{Frame}
 use Rattle.spec_model.specs.declared.Request.{Request}
 use Rattle.spec_model.specs.declared.Table.{Table}
-use Rattle.spec_rules.specs.Calls.{heldOf, holds, offerAnswer}
+use Rattle.spec_rules.specs.Calls.{holds, offerAnswer}
 use Rattle.spec_rules.specs.WellFormed.{WellFormed}
 use Rattle.law_steps.specs.Offers.{offerChecksBut, isFull, hasTime, answer-fits, answer-not}
 use Rattle.law_ahead.specs.Tables.{formed-some}
@@ -19,20 +20,20 @@ use Rattle.law_exact.specs.Entries.{ServesEntry}
 use Rattle.law_exact.specs.Plans.{plansAhead, ahead-serves, serves-ahead}
 
 module _ (t : Table) (w : WellFormed t) (q : Request)
-    (h : refusal (offerChecksBut (holds t (q .stream)) (isFull t q) (t .interval .0) q) ≡ 0)
+    (h : refusal (offerChecksBut (holds t (q .name)) (isFull t q) (t .frame) q) ≡ 0)
   where
-    abbrev B : ℕ
-    B = t .interval .0
+    abbrev F : Frame
+    F = t .frame
 
     -- the assignment serves the entries and the offered request, which counts as accepted
     abbrev pub ServesOffer : Assignment → Type 0
-    ServesOffer a = All (ServesEntry B a) (entryOf q ∷ heldOf t)
+    ServesOffer a = All (ServesEntry F a) (entryOf q ∷ heldOf t)
 
     pub offer-served : offerAnswer t q ≡ 0 → (a : Assignment) × ServesOffer a
     offer-served z =
         let es = entryOf q ∷ heldOf t in
-        (plansAhead B es, ahead-serves B es (formed-some w) (passed-together t w q h) (answer-fits t q h z))
+        (plansAhead F es, ahead-serves F es (formed-some w) (passed-together t w q h) (answer-fits t q h z))
 
     pub offer-hopeless : offerAnswer t q ≡ 17 → (a : Assignment) → ServesOffer a → ⊥
     offer-hopeless z a s =
-        clash (hasTime t q) (serves-ahead B a (entryOf q ∷ heldOf t) (passed-together t w q h) s) (answer-not t q h z)
+        clash (hasTime t q) (serves-ahead F a (entryOf q ∷ heldOf t) (passed-together t w q h) s) (answer-not t q h z)

@@ -19,11 +19,16 @@ use Rattle.base_lists.specs.Sums.{sum-ext, sum-le, sum-add, sum-keep, sum-sort,
 use Rattle.base_edf.specs.Time.{due}
 use Rattle.base_edf.specs.Edf.{Source, source, later, dem}
 use Rattle.base_edf.specs.Periodic.{periodic-room}
-use Rattle.spec_model.specs.Entries.{isStream, isKind, isPiece}
+use Rattle.spec_model.specs.Frames.{slotsIn, roomIn}
+use Rattle.spec_model.specs.Names.{same}
+use Rattle.spec_model.specs.Entries.{isNamed, isKind, isPiece}
+use Rattle.spec_model.specs.declared.Frame.{Frame}
+use Rattle.spec_model.specs.declared.Name.{Name}
 use Rattle.spec_model.specs.declared.Entry.{Entry}
 use Rattle.spec_rules.specs.Share.{load, order, jobCount, stepB, stepC}
-use Rattle.spec_rules.specs.Slots.{Job, JobName, nameOf, jobAt, jobsFrom, jobLength, jobNeed, jobsOf, lower, tieOrder, jobs, sameName}
+use Rattle.spec_rules.specs.Slots.{Job, JobName, nameOf, jobAt, jobsFrom, jobLength, jobNeed, jobsOf, lowerNamed, tieOrder, jobs, sameName}
 use Rattle.spec_rules.specs.WellFormed.{Held}
+use Rattle.law_model.specs.Frames.{room-slots}
 use Rattle.law_steps.specs.Held.{Fraction, Piece, held-kinds, piece-of, not-fraction, fraction-not}
 use Rattle.law_steps.specs.StepB.{order-all, all-order, order-sum}
 use Rattle.law_steps.specs.Extras.{needs-fit}
@@ -31,8 +36,8 @@ use Rattle.law_ahead.specs.Moved.{Together}
 use Rattle.law_slots.specs.Choice.{Keys}
 use Rattle.law_slots.specs.Service.{jobSource, JobRoom, job-dem}
 
--- ---- jobs of one stream
-module _ (s T need : ℕ) where
+-- ---- jobs of one request
+module _ (s : Name) (T need : ℕ) where
   pub from-all : {P : Job → Type 0} (n j : ℕ) → ((k : ℕ) → j ≤ k → k < j + n → P (jobAt s T need k)) → All P (jobsFrom n s T need j)
   unfolding jobsFrom
   from-all zero j h = stop
@@ -82,12 +87,12 @@ module _ (s T need : ℕ) where
         | no e ↦ omega (arith, one-if-false (ne-eqb j x e), from-once n (suc j) x)
       ]
 
-  -- a name stands at most once, and only where it names the stream
-  from-keys : (n : ℕ) (k : JobName) → sumOf (λ i. one-if (sameName (nameOf i) k)) (jobsFrom n s T need 0) ≤ one-if (eqb s (k .stream))
-  from-keys n k = omega (arith, number-only, go (eqb s (k .stream)))
+  -- a name stands at most once, and only where it names the request
+  from-keys : (n : ℕ) (k : JobName) → sumOf (λ i. one-if (sameName (nameOf i) k)) (jobsFrom n s T need 0) ≤ one-if (same s (k .name))
+  from-keys n k = omega (arith, number-only, go (same s (k .name)))
     where
       number-only : sumOf (λ i. one-if (sameName (nameOf i) k)) (jobsFrom n s T need 0)
-          ≡ sumOf (λ (i : Job). one-if (eqb s (k .stream) && eqb (i .number) (k .number))) (jobsFrom n s T need 0)
+          ≡ sumOf (λ (i : Job). one-if (same s (k .name) && eqb (i .number) (k .number))) (jobsFrom n s T need 0)
       number-only = sum-ext _ _ (from-all n 0 (λ i a b. refl))
 
       go : (b : Bool) → sumOf (λ (i : Job). one-if (b && eqb (i .number) (k .number))) (jobsFrom n s T need 0) ≤ one-if b
@@ -111,19 +116,19 @@ later-dem u T m (suc x) d = omega (arith, ap (λ v. later v u T m (suc x) d) (ze
 
 -- ---- all entries
 -- every entry is of kind 1 or a piece
-pub kinds-apart : {B : ℕ} {es : List Entry} → All (Held B) es → All (λ e. isPiece e ≡ not (isKind 1 e)) es
+pub kinds-apart : {F : Frame} {es : List Entry} → All (Held F) es → All (λ e. isPiece e ≡ not (isKind 1 e)) es
 kinds-apart h =
     all-map (λ e w. ⊎-elim (λ f. fraction-not e (f .kind) ∙ sym (ap not (eq-eqb (e .kind) 1 (f .kind))))
     (λ p. piece-of e (p .kind) ∙ sym (ap not (not-fraction e (p .kind)))) (held-kinds w)) h
 
-module _ {B : ℕ} {es : List Entry} (w : All (Held B) es) where
+module _ {F : Frame} {es : List Entry} (w : All (Held F) es) where
   pub tie-sum : (f : Entry → ℕ) → sumOf f (tieOrder es) ≡ sumOf f es
   unfolding tieOrder
   tie-sum f =
       omega (
         arith,
-        sum-append f (sort lower (keep (isKind 1) es)) (order es),
-        sum-sort f lower (keep (isKind 1) es),
+        sum-append f (sort lowerNamed (keep (isKind 1) es)) (order es),
+        sum-sort f lowerNamed (keep (isKind 1) es),
         sum-keep f (isKind 1) es,
         order-sum f es,
         sum-add (λ e. cond (isKind 1 e) (f e) 0) (λ e. cond (isPiece e) (f e) 0) es,
@@ -137,110 +142,113 @@ module _ {B : ℕ} {es : List Entry} (w : All (Held B) es) where
 
   pub all-tie : {P : Entry → Type 0} → All P es → All P (tieOrder es)
   unfolding tieOrder
-  all-tie h = all-append (all-sort lower (all-keep (isKind 1) (λ e q p. p) h)) (all-order (all-map (λ e p q. p) h))
+  all-tie h = all-append (all-sort lowerNamed (all-keep (isKind 1) (λ e q p. p) h)) (all-order (all-map (λ e p q. p) h))
 
   tie-all : (P : Entry → Type 0) → All P (tieOrder es) → All P es
   unfolding tieOrder
   tie-all P h =
       all-zip (λ e q r. pick e (isKind 1 e) refl q (r .0) (r .1)) (kinds-apart w)
       (all-both
-      (all-kept P (isKind 1) es (all-sorted P lower (keep (isKind 1) es) (all-left P (sort lower (keep (isKind 1) es)) (order es) h)))
-      (order-all P es (all-right P (sort lower (keep (isKind 1) es)) (order es) h)))
+      (all-kept P (isKind 1) es (all-sorted P lowerNamed (keep (isKind 1) es) (all-left P (sort lowerNamed (keep (isKind 1) es)) (order es) h)))
+      (order-all P es (all-right P (sort lowerNamed (keep (isKind 1) es)) (order es) h)))
     where
       pick : (e : Entry) (b : Bool) → isKind 1 e ≡ b → isPiece e ≡ not b → (isKind 1 e ≡ true → P e) → (isPiece e ≡ true → P e) → P e
       pick e true z q x y = x z
       pick e false z q x y = y q
 
 -- ---- all jobs of the interval
-module _ {B : ℕ} {es : List Entry} (w : Together B es) where
+module _ {F : Frame} {es : List Entry} (w : Together F es) where
   -- what an entry's jobs are, as steps B and C have it
   abbrev own : Entry → List Job
-  own e = jobsOf B (stepB B es) (stepC B es) e
+  own e = jobsOf F (stepB F es) (stepC F es) e
 
   abbrev need : Entry → ℕ
-  need e = jobNeed (stepB B es) (stepC B es) e
+  need e = jobNeed (stepB F es) (stepC F es) e
 
-  pub jobs-sum : (f : Job → ℕ) → sumOf f (jobs B es) ≡ sumOf (λ e. sumOf f (own e)) es
+  pub jobs-sum : (f : Job → ℕ) → sumOf f (jobs F es) ≡ sumOf (λ e. sumOf f (own e)) es
   unfolding jobs
   jobs-sum f = sum-concat f own (tieOrder es) ∙ tie-sum (w .held) (λ e. sumOf f (own e))
 
-  pub jobs-all : {P : Job → Type 0} → All (λ e. (k : ℕ) → k < jobCount e → P (jobAt (e .stream) (jobLength B e) (need e) k)) es
-      → All P (jobs B es)
+  pub jobs-all : {P : Job → Type 0} → All (λ e. (k : ℕ) → k < jobCount e → P (jobAt (e .name) (jobLength F e) (need e) k)) es
+      → All P (jobs F es)
   unfolding jobs
   jobs-all h =
       all-concat own
       (all-tie (w .held)
-      (all-map (λ e q. from-all (e .stream) (jobLength B e) (need e) (jobCount e) 0 (λ k a b. q k (omega arith))) h))
+      (all-map (λ e q. from-all (e .name) (jobLength F e) (need e) (jobCount e) 0 (λ k a b. q k (omega arith))) h))
 
-  pub jobs-each : (P : Job → Type 0) → All P (jobs B es)
-      → All (λ e. (k : ℕ) → k < jobCount e → P (jobAt (e .stream) (jobLength B e) (need e) k)) es
+  pub jobs-each : (P : Job → Type 0) → All P (jobs F es)
+      → All (λ e. (k : ℕ) → k < jobCount e → P (jobAt (e .name) (jobLength F e) (need e) k)) es
   unfolding jobs
   jobs-each P h =
-      all-map (λ e q k l. from-each (e .stream) (jobLength B e) (need e) P (jobCount e) 0 q k zero-le (omega arith))
+      all-map (λ e q k l. from-each (e .name) (jobLength F e) (need e) P (jobCount e) 0 q k zero-le (omega arith))
       (tie-all (w .held) (λ e. All P (own e)) (all-unconcat P own (tieOrder es) h))
 
-  -- no name twice: an entry's jobs have different numbers, and no stream stands twice
-  pub jobs-keys : Keys (jobs B es)
+  -- no name twice: an entry's jobs have different numbers, and no request stands twice
+  pub jobs-keys : Keys (jobs F es)
   jobs-keys k =
       omega (
         arith,
         jobs-sum (λ (j : Job). one-if (sameName (nameOf j) k)),
-        sum-le (λ e. sumOf (λ (j : Job). one-if (sameName (nameOf j) k)) (own e)) (λ (e : Entry). one-if (isStream (k .stream) e))
-            (all-of es (λ e. from-keys (e .stream) (jobLength B e) (need e) (jobCount e) k)),
-        w .once (k .stream),
+        sum-le (λ e. sumOf (λ (j : Job). one-if (sameName (nameOf j) k)) (own e)) (λ (e : Entry). one-if (isNamed (k .name) e))
+            (all-of es (λ e. from-keys (e .name) (jobLength F e) (need e) (jobCount e) k)),
+        w .once (k .name),
       )
 
   -- ---- room
   -- m jobs of length T fill the interval
-  pub fills : All (λ e. jobLength B e * jobCount e ≡ B) es
+  pub fills : All (λ e. jobLength F e * jobCount e ≡ slotsIn F) es
   fills = all-map (λ e h. one e (held-kinds h)) (w .held)
     where
-      one : (e : Entry) → Fraction B e ⊎ Piece B e → jobLength B e * jobCount e ≡ B
+      one : (e : Entry) → Fraction F e ⊎ Piece F e → jobLength F e * jobCount e ≡ slotsIn F
       one e (inl f) = rw (eq-eqb (e .kind) 1 (f .kind)) (f .whole)
       one e (inr p) = rw (not-fraction e (p .kind)) (omega arith)
 
   some-jobs : All (λ e. 1 ≤ jobCount e) es
   some-jobs = all-map (λ e h. one e (held-kinds h)) (w .held)
     where
-      one : (e : Entry) → Fraction B e ⊎ Piece B e → 1 ≤ jobCount e
+      one : (e : Entry) → Fraction F e ⊎ Piece F e → 1 ≤ jobCount e
       one e (inl f) = rw (eq-eqb (e .kind) 1 (f .kind)) (omega (arith, f .parts-least))
       one e (inr p) = rw (not-fraction e (p .kind)) (le-refl 1)
 
-  -- An entry's jobs ask what a periodic source asks; those sources have room, since what they ask of the interval fits it.
-  pub jobs-room : 1 ≤ B → load es ≤ B → JobRoom 0 (jobs B es)
+  -- An entry's jobs ask what a periodic source asks; those sources have room, since what they ask of the interval fits it. Here alone
+  -- room comes from: what may be given (`roomIn`) is no more than the slots that the jobs fill.
+  pub jobs-room : 1 ≤ slotsIn F → load es ≤ roomIn F → JobRoom 0 (jobs F es)
   jobs-room b l x d =
       omega (
         arith,
         jobs-sum (λ j. dem (jobSource 0 j) x d),
         sum-ext (λ e. sumOf (λ j. dem (jobSource 0 j) x d) (own e)) (λ e. dem (periodic e) x d)
             (all-map (λ e c. each e (jobCount e) c) some-jobs),
-        periodic-room need (jobLength B) jobCount (λ e. jobCount e - 1) B es b fills
-            (needs-fit B es (w .once) (kinds-apart (w .held)) l) x d,
+        periodic-room need (jobLength F) jobCount (λ e. jobCount e - 1) (slotsIn F) es b fills all-needs x d,
       )
     where
+      all-needs : sumOf (λ e. jobCount e * need e) es ≤ slotsIn F
+      all-needs = omega (arith, needs-fit F es (w .once) (kinds-apart (w .held)) l, room-slots F)
+
       periodic : Entry → Source
-      periodic e = source (need e) (jobLength B e) (need e) (jobLength B e) (jobCount e - 1)
+      periodic e = source (need e) (jobLength F e) (need e) (jobLength F e) (jobCount e - 1)
 
       each : (e : Entry) (m : ℕ) → 1 ≤ m
-          → sumOf (λ j. dem (jobSource 0 j) x d) (jobsFrom m (e .stream) (jobLength B e) (need e) 0)
-          ≡ dem (source (need e) (jobLength B e) (need e) (jobLength B e) (m - 1)) x d
+          → sumOf (λ j. dem (jobSource 0 j) x d) (jobsFrom m (e .name) (jobLength F e) (need e) 0)
+          ≡ dem (source (need e) (jobLength F e) (need e) (jobLength F e) (m - 1)) x d
       each e zero c = absurd (omega arith)
       each e (suc m) c =
-          let z : 0 * jobLength B e ≡ 0 = zero-mul (jobLength B e) in
+          let z : 0 * jobLength F e ≡ 0 = zero-mul (jobLength F e) in
           let p : m ≡ suc m - 1 = omega arith in
-          from-dem (e .stream) (jobLength B e) (need e) (suc m) 0 x d
-          ∙ ap (λ v. later v (need e) (jobLength B e) (suc m) x d) z
-          ∙ later-dem (need e) (jobLength B e) m x d
-          ∙ ap (λ v. dem (source (need e) (jobLength B e) (need e) (jobLength B e) v) x d) p
+          from-dem (e .name) (jobLength F e) (need e) (suc m) 0 x d
+          ∙ ap (λ v. later v (need e) (jobLength F e) (suc m) x d) z
+          ∙ later-dem (need e) (jobLength F e) m x d
+          ∙ ap (λ v. dem (source (need e) (jobLength F e) (need e) (jobLength F e) v) x d) p
 
   -- every job is released before it is due, and due by the end of the interval
-  pub jobs-windows : 1 ≤ B → All (λ j. (j .release < j .due) × (j .due ≤ B)) (jobs B es)
+  pub jobs-windows : 1 ≤ slotsIn F → All (λ j. (j .release < j .due) × (j .due ≤ slotsIn F)) (jobs F es)
   jobs-windows b =
       jobs-all (all-map (λ e f k q. (
-        omega (arith, suc-mul k (jobLength B e), long (jobLength B e) (jobCount e) f),
-        omega (arith, f, mul-comm (jobLength B e) (jobCount e), mul-le-mul-right (jobLength B e) q),
+        omega (arith, suc-mul k (jobLength F e), long (jobLength F e) (jobCount e) f),
+        omega (arith, f, mul-comm (jobLength F e) (jobCount e), mul-le-mul-right (jobLength F e) q),
       )) fills)
     where
-      long : (T m : ℕ) → T * m ≡ B → 1 ≤ T
+      long : (T m : ℕ) → T * m ≡ slotsIn F → 1 ≤ T
       long zero m h = absurd (omega (arith, zero-mul m))
       long (suc T) m h = omega arith

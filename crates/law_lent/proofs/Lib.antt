@@ -1,7 +1,9 @@
 pub mod Answers
+pub mod Beside
+pub mod Bytes
 pub mod Entries
 pub mod Lent
+pub mod Loaned
 pub mod Locals
 pub mod Looked
-pub mod Number
 pub mod Walk

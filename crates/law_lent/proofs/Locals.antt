@@ -19,7 +19,8 @@ use base.Logic.{allI, allE, guardI, neverE}
 use base.Fml.{Fml, ftrue, ffalse, fsep, fat, froom, fdies}
 use prog.Wp.{Heap, Calls, Loops, Env, spotOf, alloc, release, WpFn}
 use ghost.Atoms.{Atoms, sem}
-use types.Kit.{Given, Item, ‵, raw, given, _⊛_, mean, ⋆, nth, del, put, pull, fill, pop, push, Post, atRet, Goal, prop, aim, runs, lands, params′, frees}
+use types.Kit.{Given, Item, ‵, raw, given, _⊛_, mean, ⋆, nth, del, put, pull, fill, pop, push, Post, atRet, Goal, prop, aim}
+use types.Kit.{runs, lands, params′, frees}
 use types.Kit.{Go, Seq, Step, step, _$_, _∵_, !, qed, by, move, use1, use2, split, learn, fsplit, fjoin, rewrite, check, frame, assume, each, done}
 use types.Run.{Writes, Opd, Rv, from, fld, stop, load, assigns, land}
 use types.Part.{Part, sub, look-in}
@@ -157,7 +158,8 @@ module _ {M : Type 1} (𝓤 : URA M) (H : Heap 𝓤) (A : Atoms 𝓤) (W : Given
       allI 𝓤 (λ (l : ℕ). wand 𝓤 (sep 𝓤 (H .room τ l 0) (H .dies τ l)) (alloc 𝓤 H ls (λ E. Kt ((τ, l) ∷ E)))) (λ l.
       wandI 𝓤 R (sep 𝓤 (H .room τ l 0) (H .dies τ l)) (alloc 𝓤 H ls (λ E. Kt ((τ, l) ∷ E)))
       (allocated ls (sep 𝓤 R (sep 𝓤 (H .room τ l 0) (H .dies τ l))) (λ E. Kt ((τ, l) ∷ E)) (each-block ls (λ E h.
-      qed W (‵ (held E (rooms ls)) ∷ raw R ∷ (‵ (froom τ l 0) ⊛ ‵ (fdies τ l)) ∷ []) ∵ move ! (2 ∷ []) $ split ! $ fjoin ! $ fjoin ! $ by ! h) (k l))))
+      qed W (‵ (held E (rooms ls)) ∷ raw R ∷ (‵ (froom τ l 0) ⊛ ‵ (fdies τ l)) ∷ []) ∵
+      move ! (2 ∷ []) $ split ! $ fjoin ! $ fjoin ! $ by ! h) (k l))))
 
 module _ {M : Type 1} {𝓤 : URA M} {H : Heap 𝓤} {A : Atoms 𝓤} {K : Type 0} {W : Given 𝓤 H A} where
   -- the k-th local holds v, and can be given another value

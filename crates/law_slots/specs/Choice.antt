@@ -12,16 +12,17 @@ use native.Mathlib.Omega.{arith}
 use lib.Dec.{leb, ltb}
 use borrow.Author.Tests.{leb-true, leb-false, ltb-true, le-leb, lt-leb}
 use Rattle.spec_lists.specs.Lists.{one-if, sumOf}
-use Rattle.base_lists.specs.Tests.{either, clash, and-both, one-if-true, one-if-false, one-if-most, eqb-refl}
 use Rattle.spec_lists.specs.All.{All, stop, and}
+use Rattle.base_lists.specs.Tests.{either, clash, and-both, one-if-true, one-if-false, one-if-most, eqb-refl}
 use Rattle.base_lists.specs.All.{all-map}
 use Rattle.base_lists.specs.Sums.{sum-same, sum-map}
 use Rattle.base_lists.specs.Picked.{Picked, here, there, picked-all, picked-alone}
 use Rattle.spec_rules.specs.Slots.{Job, JobName, nameOf, isReady, dueFirst, choose, Slot, slotOf, sameName, hasSlot, oneLess, charge}
+use Rattle.law_model.specs.Names.{same-refl}
 
 -- ---- names
 pub same-self : (k : JobName) → sameName k k ≡ true
-same-self k = ap₂ _&&_ (eqb-refl (k .stream)) (eqb-refl (k .number))
+same-self k = ap₂ _&&_ (same-refl (k .name)) (eqb-refl (k .number))
 
 -- no job name stands twice
 abbrev pub Keys : List Job → Type 0

@@ -13,14 +13,13 @@ use lib.Dec.{ltb}
 use borrow.Author.Tests.{lt-ltb, le-ltb}
 use lib.ListN.{length}
 use Rattle.spec_lists.specs.Lists.{one-if, sumOf}
-use Rattle.base_lists.specs.Tests.{one-if-true, one-if-false}
 use Rattle.spec_lists.specs.All.{All}
+use Rattle.base_lists.specs.Tests.{one-if-true, one-if-false}
 use Rattle.base_lists.specs.All.{all-of, all-zip}
 use Rattle.base_lists.specs.Sums.{sum-map, sum-tight, sum-le, each-in-sum}
 use Rattle.base_lists.specs.Picked.{picked-one}
 use Rattle.spec_rules.specs.Slots.{Job, isReady, choose, Slot, slotOf, hasSlot, charge, slotsFrom, Run, run, goesOn, prepend, runsFrom}
-use Rattle.law_slots.specs.Choice.{Keys, Choice, takes, chooses, ready-both, ready-only, slot-again}
-use Rattle.law_slots.specs.Choice.{charge-release, charge-need, keys-charge}
+use Rattle.law_slots.specs.Choice.{Keys, Choice, takes, chooses, ready-both, ready-only, slot-again, charge-release, charge-need, keys-charge}
 use Rattle.law_slots.specs.Cuts.{prepend-on}
 
 -- what of a job is still to come when slot s comes: its end, and its release

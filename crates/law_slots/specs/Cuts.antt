@@ -12,18 +12,20 @@ use native.Mathlib.Omega.{arith}
 use lib.Dec.{eqb}
 use borrow.Author.Tests.{eqb-true}
 use lib.ListN.{getD}
-use Rattle.base_lists.specs.Tests.{clash, and-both, eqb-refl}
 use Rattle.spec_lists.specs.All.{All, stop, and}
+use Rattle.base_lists.specs.Tests.{clash, and-both, eqb-refl}
 use Rattle.base_lists.specs.All.{head, all-map}
+use Rattle.spec_model.specs.Names.{same}
 use Rattle.spec_rules.specs.Slots.{JobName, Slot, Run, run, goesOn, prepend, runsFrom}
+use Rattle.law_model.specs.Names.{same-refl, same-true}
 
 -- the job that a record names
 abbrev pub nameIn : Run → JobName
-nameIn r = record { stream = r .stream; number = r .job }
+nameIn r = record { name = r .name; number = r .job }
 
 -- ---- a record that slot s goes on into: it is job k's, and starts in the next slot
 goes-self : (k : JobName) (s n : ℕ) → goesOn k s (run k (suc s) n) ≡ true
-goes-self k s n = ap₂ _&&_ (eqb-refl (k .stream)) (ap₂ _&&_ (eqb-refl (k .number)) (eqb-refl (suc s)))
+goes-self k s n = ap₂ _&&_ (same-refl (k .name)) (ap₂ _&&_ (eqb-refl (k .number)) (eqb-refl (suc s)))
 
 pub prepend-on : (s : ℕ) (k : JobName) (n : ℕ) (rs : List Run) → prepend s (some k) (run k (suc s) n ∷ rs) ≡ run k s (suc n) ∷ rs
 unfolding prepend
@@ -31,12 +33,12 @@ prepend-on s k n rs = ap (λ b. cond b (run k s (suc n) ∷ rs) (run k s 1 ∷ r
 
 goes-on : (k : JobName) (s : ℕ) (r : Run) → goesOn k s r ≡ true → r ≡ run k (suc s) (r .length)
 goes-on k s r h =
-    let p : (eqb (r .stream) (k .stream) ≡ true) × ((eqb (r .job) (k .number) && eqb (r .start) (suc s)) ≡ true) =
-    and-both (eqb (r .stream) (k .stream)) (eqb (r .job) (k .number) && eqb (r .start) (suc s)) h in
+    let p : (same (r .name) (k .name) ≡ true) × ((eqb (r .job) (k .number) && eqb (r .start) (suc s)) ≡ true) =
+    and-both (same (r .name) (k .name)) (eqb (r .job) (k .number) && eqb (r .start) (suc s)) h in
     let q : (eqb (r .job) (k .number) ≡ true) × (eqb (r .start) (suc s) ≡ true) =
     and-both (eqb (r .job) (k .number)) (eqb (r .start) (suc s)) (p .1) in
     λ i. record {
-      stream = eqb-true (r .stream) (k .stream) (p .0) i;
+      name = same-true (r .name) (k .name) (p .0) i;
       job = eqb-true (r .job) (k .number) (q .0) i;
       start = eqb-true (r .start) (suc s) (q .1) i;
       length = r .length;
@@ -80,7 +82,7 @@ module _ (cs : List Slot) where
   cuts-start h (skip e w) = absurd (no-job e h)
   cuts-start {s} {k} h (cut {r = r} e l a z w) =
       let n : nameIn r ≡ k = Option·some-injective (nameIn r) k (sym (a s (omega arith) (omega arith)) ∙ h) in
-      λ i. record { stream = n i .stream; job = n i .number; start = e i; length = r .length }
+      λ i. record { name = n i .name; job = n i .number; start = e i; length = r .length }
 
   -- a run of the one slot s
   alone : (s : ℕ) (k : JobName) {rs : List Run} → slot s ≡ some k → slot (suc s) ≢ some k → Cuts (suc s) rs → Cuts s (run k s 1 ∷ rs)

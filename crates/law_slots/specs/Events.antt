@@ -11,16 +11,18 @@ use native.Mathlib.Numerals.{add-one, one-add}
 use native.Mathlib.Omega.{arith}
 use lib.Dec.{eqb}
 use lib.ListN.{replicate}
-use Rattle.base_lists.specs.Tests.{clash, one-if-most, eqb-refl}
 use Rattle.spec_lists.specs.All.{All}
+use Rattle.base_lists.specs.Tests.{clash, one-if-most, eqb-refl}
 use Rattle.base_lists.specs.All.{all-of, all-map, all-zip, all-of-map, map-ext}
+use Rattle.spec_model.specs.Names.{same}
 use Rattle.spec_rules.specs.Slots.{Job, JobName, nameOf, choose, Slot, slotOf, hasSlot, oneLess, charge, slotsFrom, Run, run, prepend, runsFrom}
+use Rattle.law_model.specs.Names.{same-refl}
 use Rattle.law_slots.specs.Choice.{Keys, Choice, takes, chooses, named-once, charge-slot, charge-release, charge-need, slot-again}
 
 -- ---- slots
 -- the job with n slots less to come
 abbrev pub lessBy : ℕ → Job → Job
-lessBy n j = record { stream = j .stream; number = j .number; release = j .release; due = j .due; need = j .need - n }
+lessBy n j = record { name = j .name; number = j .number; release = j .release; due = j .due; need = j .need - n }
 
 -- the job after n slots that all are c
 abbrev pub spent : ℕ → Slot → Job → Job
@@ -101,7 +103,7 @@ idle-on n r s js e h =
 -- ---- runs
 -- a run of job k that starts in t
 abbrev pub follows : JobName → ℕ → Run → Bool
-follows k t r = eqb (r .stream) (k .stream) && (eqb (r .job) (k .number) && eqb (r .start) t)
+follows k t r = same (r .name) (k .name) && (eqb (r .job) (k .number) && eqb (r .start) t)
 
 -- n slots of job k from slot s on, before the runs rs
 unfoldable pub joined : (n s : ℕ) → JobName → List Run → List Run
@@ -113,7 +115,7 @@ joined-on : (n s : ℕ) (k : JobName) (m : ℕ) (rs : List Run) → joined n s k
 unfolding joined
 joined-on n s k m rs =
     ap (λ b. cond b (run k s (n + m) ∷ rs) (run k s n ∷ run k (s + n) m ∷ rs))
-    (ap₂ _&&_ (eqb-refl (k .stream)) (ap₂ _&&_ (eqb-refl (k .number)) (eqb-refl (s + n))))
+    (ap₂ _&&_ (same-refl (k .name)) (ap₂ _&&_ (eqb-refl (k .number)) (eqb-refl (s + n))))
 
 -- n slots, then m more of the same job, are n + m
 pub joined-joined : (n m s : ℕ) (k : JobName) (rs : List Run) → joined n s k (joined m (s + n) k rs) ≡ joined (n + m) s k rs

@@ -12,16 +12,16 @@ use native.Mathlib.Decide.{decLe}
 use native.Mathlib.Omega.{arith}
 use lib.ListN.{length, getD}
 use Rattle.spec_lists.specs.Lists.{one-if, sumOf, span}
-use Rattle.base_lists.specs.Tests.{either, cond-zero, one-if-true, one-if-false}
 use Rattle.spec_lists.specs.All.{All}
+use Rattle.base_lists.specs.Tests.{either, cond-zero, one-if-true, one-if-false}
 use Rattle.base_lists.specs.All.{all-of, all-map, all-zip, all-of-map, all-unmap}
 use Rattle.base_lists.specs.Sums.{sum-same, sum-zero, sum-map, each-in-sum}
 use Rattle.base_lists.specs.Picked.{picked-one, picked-only}
 use Rattle.base_edf.specs.Time.{due-in, span-agree, span-ext, span-join, span-zero, span-sum}
 use Rattle.base_edf.specs.Edf.{dem}
 use Rattle.spec_rules.specs.Slots.{Job, JobName, nameOf, isReady, choose, Slot, slotOf, hasSlot, charge, slotsFrom}
-use Rattle.law_slots.specs.Choice.{Keys, Choice, idle, takes, chooses, same-self, named-apart, ready-both, ready-only, got, wins}
-use Rattle.law_slots.specs.Choice.{charge-name, charge-release, charge-due, charge-need, charge-slot, keys-charge}
+use Rattle.law_slots.specs.Choice.{Keys, Choice, idle, takes, chooses, same-self, named-apart, ready-both, ready-only, got, wins, charge-name}
+use Rattle.law_slots.specs.Choice.{charge-release, charge-due, charge-need, charge-slot, keys-charge}
 use Rattle.law_slots.specs.Service.{jobSource, JobRoom, job-on, room-on}
 
 -- 1 where slot x of cs is j's

@@ -14,8 +14,8 @@ use lib.Dec.{leb, ltb}
 use borrow.Author.Tests.{le-leb, lt-leb, lt-ltb, le-ltb}
 use lib.ListN.{length, getD, List·getD-eq-default}
 use Rattle.spec_lists.specs.Lists.{one-if, sumOf}
-use Rattle.base_lists.specs.Tests.{both-and, and-false}
 use Rattle.spec_lists.specs.All.{All, stop, and}
+use Rattle.base_lists.specs.Tests.{both-and, and-false}
 use Rattle.base_lists.specs.All.{head, all-map}
 use Rattle.base_lists.specs.Sums.{sum-zero}
 use Rattle.spec_rules.specs.Slots.{JobName, Slot, Run, runsFrom, gives}
@@ -122,7 +122,7 @@ module _ (cs : List Slot) where
             | no h ↦ absurd (v .after (a (r .start + r .length) (omega arith) (omega arith) ∙ ap some (sym n)))
           ] in
           let f : r .length ≡ q .length = omega arith in
-          λ i. record { stream = n i .stream; job = n i .number; start = b i; length = f i }
+          λ i. record { name = n i .name; job = n i .number; start = b i; length = f i }
 
   -- ---- by start
   cuts-rise : {s : ℕ} {rs : List Run} → Cuts cs s rs → rises (map (λ r. r .start) rs) ≡ true

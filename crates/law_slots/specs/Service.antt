@@ -21,8 +21,8 @@ use Rattle.base_edf.specs.Edf.{Source, source, rem, left, next, dem, Greedy, Ro
 use Rattle.base_edf.specs.Greedy.{idle-greedy, slot-greedy}
 use Rattle.base_edf.specs.Periodic.{waiting-dem}
 use Rattle.spec_rules.specs.Slots.{Job, nameOf, isReady, choose, Slot, slotOf, hasSlot, charge}
-use Rattle.law_slots.specs.Choice.{Keys, Choice, idle, takes, chooses, same-self, named-apart, ready-both, ready-only, got}
-use Rattle.law_slots.specs.Choice.{charge-need, charge-release, charge-due}
+use Rattle.law_slots.specs.Choice.{Keys, Choice, idle, takes, chooses, same-self, named-apart, ready-both, ready-only, got, charge-need}
+use Rattle.law_slots.specs.Choice.{charge-release, charge-due}
 
 -- a job that is released in w, due in l and asks n, as a source: it runs, or it is the one job that follows
 abbrev pub asking : (w l n : ℕ) → Source

@@ -7,25 +7,30 @@ use mathlib.Core.List.{List, [], _∷_}
 use Prim.Native.Nat.{ℕ, _+_, _*_, _-_, _/_, _≤_, min, max, zero-le}
 use native.Mathlib.Nat.{mul-comm, mul-le-mul-left}
 use native.Mathlib.Omega.{arith}
-use lib.Dec.{eqb}
 use Rattle.spec_lists.specs.Lists.{sumOf}
-use Rattle.base_lists.specs.Tests.{clash, eqb-refl, within-both}
 use Rattle.spec_lists.specs.All.{All}
+use Rattle.base_lists.specs.Tests.{clash}
 use Rattle.base_lists.specs.All.{head, tail, all-map, all-zip, all-both, all-kept}
 use Rattle.base_lists.specs.Sums.{sum-ext}
 use Rattle.base_lists.specs.Picked.{Picked, each-picked, picked-all, picked-alone}
-use Rattle.spec_model.specs.Entries.{freeEntry, isHeld, isKind, isPiece, isStream}
+use Rattle.spec_model.specs.Entries.{freeEntry, isHeld, isNamed, isPiece}
 use Rattle.spec_model.specs.declared.Entry.{Entry}
 use Rattle.spec_model.specs.declared.Table.{Table}
-use Rattle.spec_rules.specs.Share.{slotsFor, capacity, take-turns, stepB, remains, headroom, jobCount, weight, extra}
-use Rattle.spec_rules.specs.Calls.{heldOf}
-use Rattle.spec_rules.specs.WellFormed.{Held, Once}
+use Rattle.spec_model.specs.Names.{same}
+use Rattle.spec_model.specs.declared.Frame.{Frame}
+use Rattle.spec_model.specs.Frames.{slotsIn, partOf}
+use Rattle.spec_model.specs.declared.Name.{Name}
+use Rattle.spec_model.specs.Tables.{heldOf}
+use Rattle.spec_rules.specs.Share.{slotsFor, capacity, take-turns, stepB, remains, headroom, jobCount, weight, extra, loadOf, everyone}
+use Rattle.spec_rules.specs.WellFormed.{Held, Once, Tidy}
+use Rattle.law_model.specs.Names.{same-refl}
+use Rattle.law_model.specs.Frames.{mostSlots, frame-most}
 use Rattle.law_steps.specs.Held.{Fraction, Piece, held-kinds, held-is, piece-of, fraction-not}
 use Rattle.law_steps.specs.Grants.{slots-none, slots-there}
 use Rattle.law_steps.specs.StepB.{stepBOf, owedBefore, all-order}
 use Rattle.law_steps.specs.Extras.{stepCOf, stepC-of}
 use Rattle.law_steps.specs.Settled.{headroom-fraction, headroom-whole, headroom-transfer}
-use Rattle.law_steps.specs.Places.{Tidy, tidy-held, held-sum, piece-places}
+use Rattle.law_steps.specs.Places.{tidy-held, held-sum, piece-places}
 
 -- what an entry takes of the capacity c beside the entries ps: the smaller of what it is owed and what those before it leave.
 -- A kind 1 stream is owed nothing, and so takes nothing
@@ -40,32 +45,28 @@ pub takes-most : (c : ℕ) (ps : List Entry) (e : Entry) → takes c ps e ≤ c
 unfolding takes
 takes-most c ps e = omega arith
 
--- an interval has at most 1,000 time units of 1,024 slots
-abbrev pub mostSlots : ℕ
-mostSlots = 1000 * 1024
-
 -- ---- who has no turn in step B gets nothing of it
-turns-none : (s r : ℕ) (es : List Entry) → All (λ e. eqb (e .stream) s ≡ false) es → slotsFor s (take-turns r es) ≡ 0
+turns-none : (n : Name) (r : ℕ) (es : List Entry) → All (λ e. same (e .name) n ≡ false) es → slotsFor n (take-turns r es) ≡ 0
 unfolding take-turns
-turns-none s r [] h = slots-none s
-turns-none s r (e ∷ es) h =
+turns-none n r [] h = slots-none n
+turns-none n r (e ∷ es) h =
     let t : ℕ = min (e .owed .0) r in
-    slots-there (e .stream) t s (take-turns (r - t) es) (head h) ∙ turns-none s (r - t) es (tail h)
+    slots-there (e .name) t n (take-turns (r - t) es) (head h) ∙ turns-none n (r - t) es (tail h)
 
--- no other entry has its stream, and it is no piece itself
-stepB-none : (B : ℕ) (es : List Entry) → Once es → All (λ e. isPiece e ≡ false → stepBOf B es e ≡ 0) es
+-- no other entry has its name, and it is no piece itself
+stepB-none : (F : Frame) (es : List Entry) → Once es → All (λ e. isPiece e ≡ false → stepBOf F es e ≡ 0) es
 unfolding stepB
-stepB-none B es w = all-map (λ e k q. turns-none (e .stream) (capacity B es) _ (all-order (others e q k))) (each-picked es)
+stepB-none F es w = all-map (λ e k q. turns-none (e .name) (capacity F es) _ (all-order (others e q k))) (each-picked es)
   where
     others : (e : Entry) → isPiece e ≡ false → (fs : List Entry) × Picked e es fs
-        → All (λ f. isPiece f ≡ true → eqb (f .stream) (e .stream) ≡ false) es
+        → All (λ f. isPiece f ≡ true → same (f .name) (e .name) ≡ false) es
     others e q k =
         picked-all (k .1) (λ p. absurd (clash (isPiece e) p q))
-        (all-map (λ f n p. n) (picked-alone (isStream (e .stream)) (k .1) (w (e .stream)) (eqb-refl (e .stream))))
+        (all-map (λ f n p. n) (picked-alone (isNamed (e .name)) (k .1) (w (e .name)) (same-refl (e .name))))
 
 module _ (t : Table) (w : Tidy t) where
-  abbrev B : ℕ
-  B = t .interval .0
+  abbrev F : Frame
+  F = t .frame
 
   abbrev es : List Entry
   es = heldOf t
@@ -74,55 +75,55 @@ module _ (t : Table) (w : Tidy t) where
   pub at-places : (P : Entry → Type 0) → P freeEntry → All P es → All P (t .entries)
   at-places P z h = all-zip one (w .entries) (all-kept P isHeld (t .entries) h)
     where
-      one : (e : Entry) → (e ≡ freeEntry) ⊎ Held B e → (isHeld e ≡ true → P e) → P e
+      one : (e : Entry) → (e ≡ freeEntry) ⊎ Held F e → (isHeld e ≡ true → P e) → P e
       one e (inl q) k = subst P (sym q) z
       one e (inr q) k = k (held-is q)
 
   -- ---- the closed forms
-  pub takes-held : All (λ e. stepBOf B es e ≡ takes (capacity B es) (t .entries) e) es
+  pub takes-held : All (λ e. stepBOf F es e ≡ takes (capacity F es) (t .entries) e) es
   unfolding takes
   takes-held =
       all-zip (λ e h k. ⊎-elim (λ f. fraction e f (h .0)) (λ p. h .1 (piece-of e (p .kind))) (held-kinds k))
-      (all-both (stepB-none B es (w .once)) (piece-places t w)) (tidy-held w)
+      (all-both (stepB-none F es (w .once)) (piece-places t w)) (tidy-held w)
     where
-      fraction : (e : Entry) → Fraction B e → (isPiece e ≡ false → stepBOf B es e ≡ 0)
-          → stepBOf B es e ≡ min (e .owed .0) (capacity B es - owedBefore e (t .entries))
+      fraction : (e : Entry) → Fraction F e → (isPiece e ≡ false → stepBOf F es e ≡ 0)
+          → stepBOf F es e ≡ min (e .owed .0) (capacity F es - owedBefore e (t .entries))
       fraction e f h = omega (arith, h (fraction-not e (f .kind)))
 
   -- W, place by place
   pub weight-places :
-      weight (stepB B es) es ≡ sumOf (λ e. jobCount e * headroom e (takes (capacity B es) (t .entries) e)) (t .entries)
+      weight everyone (stepB F es) es ≡ sumOf (λ e. jobCount e * headroom e (takes (capacity F es) (t .entries) e)) (t .entries)
   unfolding weight
   weight-places =
-      sum-ext (λ e. jobCount e * headroom e (stepBOf B es e)) (λ e. jobCount e * headroom e (takes (capacity B es) (t .entries) e))
+      sum-ext (λ e. jobCount e * headroom e (stepBOf F es e)) (λ e. jobCount e * headroom e (takes (capacity F es) (t .entries) e))
       (all-map (λ e h. ap (λ b. jobCount e * headroom e b) h) takes-held)
-      ∙ sym (held-sum (λ e. jobCount e * headroom e (takes (capacity B es) (t .entries) e)) refl (w .entries))
+      ∙ sym (held-sum (λ e. jobCount e * headroom e (takes (capacity F es) (t .entries) e)) refl (w .entries))
 
   pub extra-held :
-      All (λ e. stepCOf B es e
-      ≡ extra (remains B es) (weight (stepB B es) es) (headroom e (takes (capacity B es) (t .entries) e))) es
+      All (λ e. stepCOf F es e
+      ≡ extra (remains F es) (weight everyone (stepB F es) es) (headroom e (takes (capacity F es) (t .entries) e))) es
   extra-held =
-      all-zip (λ e h k. h ∙ ap (λ b. extra (remains B es) (weight (stepB B es) es) (headroom e b)) k) (stepC-of B es (w .once)) takes-held
+      all-zip (λ e h k. h ∙ ap (λ b. extra (remains F es) (weight everyone (stepB F es) es) (headroom e b)) k) (stepC-of F es (w .once)) takes-held
 
   -- ---- how large numbers get
-  pub slots-most : B ≤ mostSlots
-  slots-most = omega (arith, within-both 1 1000 (w .units .0) (w .units .1), w .units .2)
+  pub slots-most : slotsIn F ≤ mostSlots
+  slots-most = frame-most (w .setting)
 
   -- m times what each of its jobs may have is at most the interval
-  parts-most : (e : Entry) → Fraction B e → (x : ℕ) → x ≤ e .max .0 → e .parts * x ≤ mostSlots
+  parts-most : (e : Entry) → Fraction F e → (x : ℕ) → x ≤ e .max .0 → e .parts * x ≤ mostSlots
   parts-most e f x h =
-      let k : x ≤ B / e .parts = omega (arith, f .most) in
-      omega (arith, slots-most, f .whole, mul-comm (e .parts) (B / e .parts), mul-le-mul-left (e .parts) k)
+      let k : x ≤ partOf F (e .parts) = omega (arith, f .most) in
+      omega (arith, slots-most, f .whole, mul-comm (e .parts) (partOf F (e .parts)), mul-le-mul-left (e .parts) k)
 
   -- a fact of each place, by kind
-  pub by-kind : (P : Entry → Type 0) → P freeEntry → ((e : Entry) → Fraction B e → P e) → ((e : Entry) → Piece B e → e .kind ≡ 2 → P e)
-      → ((e : Entry) → Piece B e → e .kind ≡ 3 → P e) → All P (t .entries)
+  pub by-kind : (P : Entry → Type 0) → P freeEntry → ((e : Entry) → Fraction F e → P e) → ((e : Entry) → Piece F e → e .kind ≡ 2 → P e)
+      → ((e : Entry) → Piece F e → e .kind ≡ 3 → P e) → All P (t .entries)
   by-kind P z f u v =
       at-places P z (all-map (λ e h. ⊎-elim (f e) (λ p. ⊎-elim (u e p) (v e p) (p .kind)) (held-kinds h)) (tidy-held w))
 
-  pub load-most : All (λ e. cond (isKind 1 e) (e .parts * e .min .0) 0 ≤ mostSlots) (t .entries)
+  pub load-most : All (λ e. loadOf e ≤ mostSlots) (t .entries)
   load-most =
-      by-kind (λ e. cond (isKind 1 e) (e .parts * e .min .0) 0 ≤ mostSlots) zero-le
+      by-kind (λ e. loadOf e ≤ mostSlots) zero-le
       (λ e f. rw (f .kind) (parts-most e f (e .min .0) (f .least)))
       (λ e p k. rw k zero-le)
       (λ e p k. rw k zero-le)
@@ -141,11 +142,11 @@ module _ (t : Table) (w : Tidy t) where
       none : P freeEntry
       none = omega (arith, owed freeEntry, h freeEntry)
 
-      fraction : (e : Entry) → Fraction B e → P e
+      fraction : (e : Entry) → Fraction F e → P e
       fraction e f = omega (arith, owed e, h e, headroom-fraction e (takes c (t .entries) e) (f .kind))
 
-      whole : (e : Entry) → Piece B e → e .kind ≡ 2 → P e
+      whole : (e : Entry) → Piece F e → e .kind ≡ 2 → P e
       whole e p k = omega (arith, owed e, h e, headroom-whole e (takes c (t .entries) e) k, p .owed, p .least k, p .given-whole k)
 
-      transfer : (e : Entry) → Piece B e → e .kind ≡ 3 → P e
+      transfer : (e : Entry) → Piece F e → e .kind ≡ 3 → P e
       transfer e p k = omega (arith, owed e, h e, headroom-transfer e (takes c (t .entries) e) k, p .owed, p .given-transfer k)

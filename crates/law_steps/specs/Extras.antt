@@ -15,21 +15,24 @@ use Rattle.spec_lists.specs.All.{All}
 use Rattle.base_lists.specs.All.{all-map, all-zip, all-of}
 use Rattle.base_lists.specs.Sums.{sum-ext, sum-same, sum-add, sum-zero, sum-tight}
 use Rattle.base_edf.specs.Share.{shares-fit}
-use Rattle.spec_model.specs.Entries.{isKind, isPiece}
+use Rattle.spec_model.specs.Entries.{isKind, isPiece, asks}
 use Rattle.spec_model.specs.declared.Entry.{Entry}
-use Rattle.spec_rules.specs.Share.{load, slotsFor, stepB, remains, headroom, jobCount, weight, extra, stepC}
+use Rattle.spec_model.specs.Frames.{roomIn}
+use Rattle.spec_model.specs.declared.Frame.{Frame}
+use Rattle.spec_rules.specs.Share.{Grant, loadOf, load, slotsFor, stepB, remains, headroom, jobCount, shareOf, weight, extra, shareAmong, everyone}
+use Rattle.spec_rules.specs.Share.{stepC}
 use Rattle.spec_rules.specs.Slots.{jobNeed}
 use Rattle.spec_rules.specs.WellFormed.{Once}
 use Rattle.law_steps.specs.Grants.{slots-map}
 use Rattle.law_steps.specs.StepB.{stepBOf, stepB-within, stepB-total, remains-rest}
 
 -- what step C gives an entry
-abbrev pub stepCOf : ℕ → List Entry → Entry → ℕ
-stepCOf B es e = slotsFor (e .stream) (stepC B es)
+abbrev pub stepCOf : Frame → List Entry → Entry → ℕ
+stepCOf F es e = slotsFor (e .name) (stepC F es)
 
 -- its d
-abbrev pub headroomOf : ℕ → List Entry → Entry → ℕ
-headroomOf B es e = headroom e (stepBOf B es e)
+abbrev pub headroomOf : Frame → List Entry → Entry → ℕ
+headroomOf F es e = headroom e (stepBOf F es e)
 
 -- ---- one extra
 extra-none : (L W d : ℕ) → L ≡ 0 → extra L W d ≡ 0
@@ -82,79 +85,110 @@ extras-fit L t d es =
     W : ℕ
     W = sumOf (λ e. t e * d e) es
 
-module _ (B : ℕ) (es : List Entry) (w : Once es) where
-  pub stepC-of : All (λ e. stepCOf B es e ≡ extra (remains B es) (weight (stepB B es) es) (headroomOf B es e)) es
-  unfolding stepC
-  stepC-of = slots-map (λ e. extra (remains B es) (weight (stepB B es) es) (headroomOf B es e)) es w
+-- ---- what remains, shared among those that take part
+module _ (takesPart : Entry → Bool) (F : Frame) (es : List Entry) (w : Once es) where
+  abbrev W : ℕ
+  W = weight takesPart (stepB F es) es
 
-  -- an extra stays within d
-  pub stepC-within : All (λ e. stepCOf B es e ≤ headroomOf B es e) es
-  stepC-within =
-      all-map (λ e h. omega (arith, h, extra-le (remains B es) (weight (stepB B es) es) (headroomOf B es e))) stepC-of
+  -- its d
+  abbrev dOf : Entry → ℕ
+  dOf e = shareOf takesPart (stepB F es) e
+
+  abbrev cOf : Entry → ℕ
+  cOf e = slotsFor (e .name) (shareAmong takesPart (remains F es) (stepB F es) es)
+
+  pub among-of : All (λ e. cOf e ≡ extra (remains F es) W (dOf e)) es
+  unfolding shareAmong
+  among-of = slots-map (λ e. extra (remains F es) W (dOf e)) es w
+
+  -- an extra stays within d, which is 0 for who takes no part
+  pub among-within : All (λ e. cOf e ≤ dOf e) es
+  among-within = all-map (λ e h. omega (arith, h, extra-le (remains F es) W (dOf e))) among-of
 
   -- in all the extras take at most L
-  pub stepC-total : sumOf (λ e. jobCount e * stepCOf B es e) es ≤ remains B es
+  pub among-total : sumOf (λ e. jobCount e * cOf e) es ≤ remains F es
   unfolding weight
-  stepC-total =
+  among-total =
       omega (
         arith,
-        sum-ext (λ e. jobCount e * stepCOf B es e) (λ e. jobCount e * extra (remains B es) (weight (stepB B es) es) (headroomOf B es e))
-            (all-map (λ e h. ap (λ v. jobCount e * v) h) stepC-of),
-        extras-fit (remains B es) jobCount (headroomOf B es) es,
+        sum-ext (λ e. jobCount e * cOf e) (λ e. jobCount e * extra (remains F es) W (dOf e))
+            (all-map (λ e h. ap (λ v. jobCount e * v) h) among-of),
+        extras-fit (remains F es) jobCount dOf es,
       )
 
   -- An extra is given only when everything owed is met: where something remains, step B gave the whole of what was owed, and
   -- nobody more than that, so each has what it was owed.
-  pub stepC-last : All (λ e. isPiece e ≡ true → (stepCOf B es e ≡ 0) ⊎ (stepBOf B es e ≡ e .owed .0)) es
-  stepC-last =
-      elim (ℕ-discrete (remains B es) 0) [
-        | yes z ↦ all-map (λ e h q. inl (h ∙ extra-none (remains B es) (weight (stepB B es) es) (headroomOf B es e) z)) stepC-of
-        | no z ↦ all-zip (λ e h t q. inr (paid e q (h q) t)) (stepB-within B es w)
-            (sum-tight got owed (all-map (λ e h. cut e (isPiece e) h) (stepB-within B es w))
-            (omega (arith, stepB-total B es w, remains-rest B es w)))
+  pub among-last : All (λ e. isPiece e ≡ true → (cOf e ≡ 0) ⊎ (stepBOf F es e ≡ e .owed .0)) es
+  among-last =
+      elim (ℕ-discrete (remains F es) 0) [
+        | yes z ↦ all-map (λ e h q. inl (h ∙ extra-none (remains F es) W (dOf e) z)) among-of
+        | no z ↦ all-zip (λ e h t q. inr (paid e q (h q) t)) (stepB-within F es w)
+            (sum-tight got owed (all-map (λ e h. cut e (isPiece e) h) (stepB-within F es w))
+            (omega (arith, stepB-total F es w, remains-rest F es w)))
       ]
     where
       got : Entry → ℕ
-      got e = cond (isPiece e) (stepBOf B es e) 0
+      got e = cond (isPiece e) (stepBOf F es e) 0
 
       owed : Entry → ℕ
       owed e = cond (isPiece e) (e .owed .0) 0
 
-      cut : (e : Entry) (b : Bool) → (b ≡ true → stepBOf B es e ≤ e .owed .0) → cond b (stepBOf B es e) 0 ≤ cond b (e .owed .0) 0
+      cut : (e : Entry) (b : Bool) → (b ≡ true → stepBOf F es e ≤ e .owed .0) → cond b (stepBOf F es e) 0 ≤ cond b (e .owed .0) 0
       cut e true h = h refl
       cut e false h = zero-le
 
-      paid : (e : Entry) → isPiece e ≡ true → stepBOf B es e ≤ e .owed .0 → owed e ≤ got e → stepBOf B es e ≡ e .owed .0
-      paid e q h t = omega (arith, ap (λ b. cond b (stepBOf B es e) 0) q, ap (λ b. cond b (e .owed .0) 0) q)
+      paid : (e : Entry) → isPiece e ≡ true → stepBOf F es e ≤ e .owed .0 → owed e ≤ got e → stepBOf F es e ≡ e .owed .0
+      paid e q h t = omega (arith, ap (λ b. cond b (stepBOf F es e) 0) q, ap (λ b. cond b (e .owed .0) 0) q)
 
-  -- All jobs together: kind 1's minimums, what step B gives, and the extras, m times each.
-  pub needs-fit : All (λ e. isPiece e ≡ not (isKind 1 e)) es → load es ≤ B
-      → sumOf (λ e. jobCount e * jobNeed (stepB B es) (stepC B es) e) es ≤ B
-  unfolding load
-  needs-fit k l =
-      omega (
-        arith,
-        sum-ext (λ e. jobCount e * jobNeed (stepB B es) (stepC B es) e) (λ e. (least e + piece e) + extras e)
-            (all-map (λ e h. parts e (isKind 1 e) (isPiece e) h) k),
-        sum-add (λ e. least e + piece e) extras es,
-        sum-add least piece es,
-        stepC-total,
-        stepB-total B es w,
-        remains-rest B es w,
-      )
-    where
-      least : Entry → ℕ
-      least e = cond (isKind 1 e) (e .parts * e .min .0) 0
+-- All jobs together: what every interval takes, what step B gives, and extras cs that take no more than remains, m times each.
+pub all-fit : (F : Frame) (cs : List Grant) (es : List Entry) → Once es → All (λ e. isPiece e ≡ not (isKind 1 e)) es → load es ≤ roomIn F
+    → sumOf (λ e. jobCount e * slotsFor (e .name) cs) es ≤ remains F es
+    → sumOf (λ e. jobCount e * jobNeed (stepB F es) cs e) es ≤ roomIn F
+unfolding load
+all-fit F cs es w k l x =
+    omega (
+      arith,
+      sum-ext (λ e. jobCount e * jobNeed (stepB F es) cs e) (λ e. (loadOf e + piece e) + extras e)
+          (all-map (λ e h. parts e (isKind 1 e) (isPiece e) h) k),
+      sum-add (λ e. loadOf e + piece e) extras es,
+      sum-add loadOf piece es,
+      stepB-total F es w,
+      remains-rest F es w,
+    )
+  where
+    piece : Entry → ℕ
+    piece e = cond (isPiece e) (stepBOf F es e) 0
 
-      piece : Entry → ℕ
-      piece e = cond (isPiece e) (stepBOf B es e) 0
+    c : Entry → ℕ
+    c e = slotsFor (e .name) cs
 
-      extras : Entry → ℕ
-      extras e = jobCount e * stepCOf B es e
+    extras : Entry → ℕ
+    extras e = jobCount e * c e
 
-      parts : (e : Entry) (f p : Bool) → p ≡ not f
-          → cond f (e .parts) 1 * cond f (e .min .0 + stepCOf B es e) (stepBOf B es e + stepCOf B es e)
-          ≡ (cond f (e .parts * e .min .0) 0 + cond p (stepBOf B es e) 0) + cond f (e .parts) 1 * stepCOf B es e
-      parts e true p h = omega (arith, ap (λ b. cond b (stepBOf B es e) 0) h, mul-add (e .parts) (e .min .0) (stepCOf B es e))
-      parts e false p h =
-          omega (arith, ap (λ b. cond b (stepBOf B es e) 0) h, one-mul (stepBOf B es e + stepCOf B es e), one-mul (stepCOf B es e))
+    parts : (e : Entry) (f p : Bool) → p ≡ not f
+        → cond f (e .parts) 1 * cond f (asks e + c e) (stepBOf F es e + c e)
+        ≡ (cond f (e .parts * asks e) 0 + cond p (stepBOf F es e) 0) + cond f (e .parts) 1 * c e
+    parts e true p h = omega (arith, ap (λ b. cond b (stepBOf F es e) 0) h, mul-add (e .parts) (asks e) (c e))
+    parts e false p h = omega (arith, ap (λ b. cond b (stepBOf F es e) 0) h, one-mul (stepBOf F es e + c e), one-mul (c e))
+
+-- ---- step C, in which all take part
+module _ (F : Frame) (es : List Entry) (w : Once es) where
+  pub stepC-of : All (λ e. stepCOf F es e ≡ extra (remains F es) (weight everyone (stepB F es) es) (headroomOf F es e)) es
+  unfolding stepC
+  stepC-of = among-of everyone F es w
+
+  pub stepC-within : All (λ e. stepCOf F es e ≤ headroomOf F es e) es
+  unfolding stepC
+  stepC-within = among-within everyone F es w
+
+  pub stepC-total : sumOf (λ e. jobCount e * stepCOf F es e) es ≤ remains F es
+  unfolding stepC
+  stepC-total = among-total everyone F es w
+
+  pub stepC-last : All (λ e. isPiece e ≡ true → (stepCOf F es e ≡ 0) ⊎ (stepBOf F es e ≡ e .owed .0)) es
+  unfolding stepC
+  stepC-last = among-last everyone F es w
+
+  pub needs-fit : All (λ e. isPiece e ≡ not (isKind 1 e)) es → load es ≤ roomIn F
+      → sumOf (λ e. jobCount e * jobNeed (stepB F es) (stepC F es) e) es ≤ roomIn F
+  needs-fit k l = all-fit F (stepC F es) es w k l stepC-total

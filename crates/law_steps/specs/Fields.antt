@@ -1,5 +1,5 @@
 -- What the checks of an offer's fields, refusals 12 to 15, say of a request: it passes them exactly where its fields are in the
--- ranges of its kind, which stand here as plain facts. B is the number of slots of an interval. Assumes nothing.
+-- ranges of its kind, which stand here as plain facts. Assumes nothing.
 use mathlib.Core.Path.{_≡_, refl, sym, _∙_}
 use mathlib.Core.Bool.{Bool, true, false, _&&_}
 use Prim.Native.Nat.{ℕ, zero, suc, _*_, _/_, _%_, _≤_}
@@ -10,33 +10,34 @@ use lib.Dec.{leb, eqb}
 use borrow.Author.Tests.{leb-true, le-leb, eqb-true, eq-eqb}
 use Rattle.spec_lists.specs.Lists.{within}
 use Rattle.base_lists.specs.Tests.{and-both, both-and, within-both, both-within}
-use Rattle.spec_model.specs.Requests.{refusal, inOrder, rangeChecks}
+use Rattle.spec_model.specs.Requests.{refusal, inOrder, rangeChecks, fractionPeriod, fractionAmounts, fractionLife, wholePeriod, wholeAmounts}
+use Rattle.spec_model.specs.Requests.{wholeLife, transferPeriod, transferAmounts, transferLife}
 use Rattle.spec_model.specs.Answers.{fieldsAnswer}
-use Rattle.spec_model.specs.Requests.{fractionPeriod, fractionAmounts, fractionLife, wholePeriod, wholeAmounts, wholeLife}
-use Rattle.spec_model.specs.Requests.{transferPeriod, transferAmounts, transferLife}
-use Rattle.law_steps.specs.RequestLaws.{fields-fraction, fields-whole, fields-transfer, fields-unknown}
 use Rattle.spec_model.specs.declared.Request.{Request}
+use Rattle.spec_model.specs.declared.Frame.{Frame}
+use Rattle.spec_model.specs.Frames.{slotsIn, partOf}
+use Rattle.law_steps.specs.RequestLaws.{fields-fraction, fields-whole, fields-transfer, fields-unknown}
 
 -- kind 1: the period field is m, the number of parts of the interval
-pub record FractionFields (B : ℕ) (q : Request) : Type 0 where
+pub record FractionFields (F : Frame) (q : Request) : Type 0 where
   pub kind : q .kind ≡ 1
   pub parts-least : 2 ≤ q .period
   pub parts-most : q .period ≤ 16
-  pub whole : (B / q .period) * q .period ≡ B
+  pub whole : partOf F (q .period) * q .period ≡ slotsIn F
   pub min-least : 1 ≤ q .min
   pub least : q .min ≤ q .max
-  pub most : q .max ≤ B / q .period
+  pub most : q .max ≤ partOf F (q .period)
   pub life-least : 1 ≤ q .life
   pub life-most : q .life ≤ 65535
 
 -- kind 2: the life is a whole number of periods
-pub record WholeFields (B : ℕ) (q : Request) : Type 0 where
+pub record WholeFields (F : Frame) (q : Request) : Type 0 where
   pub kind : q .kind ≡ 2
   pub period-least : 1 ≤ q .period
   pub period-most : q .period ≤ 255
   pub min-least : 1 ≤ q .min
   pub least : q .min ≤ q .max
-  pub most : q .max ≤ q .period * B
+  pub most : q .max ≤ q .period * slotsIn F
   pub life-least : 1 ≤ q .life
   pub life-most : q .life ≤ 65535
   pub count : ℕ
@@ -51,10 +52,10 @@ pub record TransferFields (q : Request) : Type 0 where
   pub max-none : q .max ≡ 0
   pub life-once : q .life ≡ q .period
 
-pub data Fields (B : ℕ) (q : Request) : Type 0 where
-  fraction : FractionFields B q → Fields B q
-  whole : WholeFields B q → Fields B q
-  transfer : TransferFields q → Fields B q
+pub data Fields (F : Frame) (q : Request) : Type 0 where
+  fraction : FractionFields F q → Fields F q
+  whole : WholeFields F q → Fields F q
+  transfer : TransferFields q → Fields F q
 
 -- ---- the tests
 -- none of the refusals 13 to 15: all three fields are in range
@@ -86,26 +87,26 @@ multiple zero p x e h = absurd (omega arith)
 multiple (suc n) p x e h = (n, sym e)
 
 -- ---- from the answer 0 to the fields
-module _ (B : ℕ) (q : Request) where
-  fraction-of : q .kind ≡ 1 → fieldsAnswer B q ≡ 0 → FractionFields B q
+module _ (F : Frame) (q : Request) where
+  fraction-of : q .kind ≡ 1 → fieldsAnswer F q ≡ 0 → FractionFields F q
   fraction-of k h =
       let w =
-      in-ranges (fractionPeriod B (q .period)) (fractionAmounts B (q .period) (q .min) (q .max)) (fractionLife (q .life))
-      (sym (fields-fraction B q k) ∙ h) in
-      let p = and-both (within 2 16 (q .period)) (eqb (B % q .period) 0) (w .0) in
+      in-ranges (fractionPeriod (slotsIn F) (q .period)) (fractionAmounts (slotsIn F) (q .period) (q .min) (q .max)) (fractionLife (q .life))
+      (sym (fields-fraction F q k) ∙ h) in
+      let p = and-both (within 2 16 (q .period)) (eqb (slotsIn F % q .period) 0) (w .0) in
       let parts = within-both 2 16 (q .period) (p .0) in
-      let amounts = in-order 1 (q .min) (q .max) (B / q .period) (w .1) in
+      let amounts = in-order 1 (q .min) (q .max) (partOf F (q .period)) (w .1) in
       let life = within-both 1 65535 (q .life) (w .2) in
-      omega (arith, div-add-mod' B (q .period), eqb-true (B % q .period) 0 (p .1))
+      omega (arith, div-add-mod' (slotsIn F) (q .period), eqb-true (slotsIn F % q .period) 0 (p .1))
 
   -- The three tests hold, so the fields are in range; the life is not 0 and leaves no remainder, so it is some count of periods.
-  whole-of : q .kind ≡ 2 → fieldsAnswer B q ≡ 0 → WholeFields B q
+  whole-of : q .kind ≡ 2 → fieldsAnswer F q ≡ 0 → WholeFields F q
   whole-of k h =
       let w =
-      in-ranges (wholePeriod (q .period)) (wholeAmounts B (q .period) (q .min) (q .max)) (wholeLife (q .period) (q .life))
-      (sym (fields-whole B q k) ∙ h) in
+      in-ranges (wholePeriod (q .period)) (wholeAmounts (slotsIn F) (q .period) (q .min) (q .max)) (wholeLife (q .period) (q .life))
+      (sym (fields-whole F q k) ∙ h) in
       let period = within-both 1 255 (q .period) (w .0) in
-      let amounts = in-order 1 (q .min) (q .max) (q .period * B) (w .1) in
+      let amounts = in-order 1 (q .min) (q .max) (q .period * slotsIn F) (w .1) in
       let l = and-both (within 1 65535 (q .life)) (eqb (q .life % q .period) 0) (w .2) in
       let life = within-both 1 65535 (q .life) (l .0) in
       let none = eqb-true (q .life % q .period) 0 (l .1) in
@@ -123,44 +124,44 @@ module _ (B : ℕ) (q : Request) where
         life-whole = n .1;
       }
 
-  transfer-of : q .kind ≡ 3 → fieldsAnswer B q ≡ 0 → TransferFields q
+  transfer-of : q .kind ≡ 3 → fieldsAnswer F q ≡ 0 → TransferFields q
   transfer-of k h =
       let w =
       in-ranges (transferPeriod (q .period)) (transferAmounts (q .min) (q .max)) (transferLife (q .period) (q .life))
-      (sym (fields-transfer B q k) ∙ h) in
+      (sym (fields-transfer F q k) ∙ h) in
       let period = within-both 1 65535 (q .period) (w .0) in
       let amounts = and-both (leb 1 (q .min)) (eqb (q .max) 0) (w .1) in
       omega (arith, leb-true 1 (q .min) (amounts .0), eqb-true (q .max) 0 (amounts .1), eqb-true (q .life) (q .period) (w .2))
 
   -- by the kind; another one has the answer 12
-  pub fields-of : fieldsAnswer B q ≡ 0 → Fields B q
+  pub fields-of : fieldsAnswer F q ≡ 0 → Fields F q
   fields-of h = go (ℕ-discrete (q .kind) 1) (ℕ-discrete (q .kind) 2) (ℕ-discrete (q .kind) 3)
     where
-      go : Dec (q .kind ≡ 1) → Dec (q .kind ≡ 2) → Dec (q .kind ≡ 3) → Fields B q
+      go : Dec (q .kind ≡ 1) → Dec (q .kind ≡ 2) → Dec (q .kind ≡ 3) → Fields F q
       go (yes k) d₂ d₃ = fraction (fraction-of k h)
       go (no n₁) (yes k) d₃ = whole (whole-of k h)
       go (no n₁) (no n₂) (yes k) = transfer (transfer-of k h)
-      go (no n₁) (no n₂) (no n₃) = absurd (omega (arith, fields-unknown B q n₁ n₂ n₃))
+      go (no n₁) (no n₂) (no n₃) = absurd (omega (arith, fields-unknown F q n₁ n₂ n₃))
 
   -- ---- and back
   -- each of the three tests of the kind holds, so no refusal applies
-  pub of-fields : Fields B q → fieldsAnswer B q ≡ 0
+  pub of-fields : Fields F q → fieldsAnswer F q ≡ 0
   of-fields (fraction f) =
-      fields-fraction B q (f .kind)
+      fields-fraction F q (f .kind)
       ∙ no-refusal
-      (both-and (within 2 16 (q .period)) (eqb (B % q .period) 0) (both-within 2 16 (q .period) (f .parts-least) (f .parts-most))
-      (eq-eqb (B % q .period) 0 (omega (arith, f .whole, div-add-mod' B (q .period)))))
-      (order-in 1 (q .min) (q .max) (B / q .period) (f .min-least) (f .least) (f .most))
+      (both-and (within 2 16 (q .period)) (eqb (slotsIn F % q .period) 0) (both-within 2 16 (q .period) (f .parts-least) (f .parts-most))
+      (eq-eqb (slotsIn F % q .period) 0 (omega (arith, f .whole, div-add-mod' (slotsIn F) (q .period)))))
+      (order-in 1 (q .min) (q .max) (partOf F (q .period)) (f .min-least) (f .least) (f .most))
       (both-within 1 65535 (q .life) (f .life-least) (f .life-most))
   of-fields (whole f) =
-      fields-whole B q (f .kind)
+      fields-whole F q (f .kind)
       ∙ no-refusal
       (both-within 1 255 (q .period) (f .period-least) (f .period-most))
-      (order-in 1 (q .min) (q .max) (q .period * B) (f .min-least) (f .least) (f .most))
+      (order-in 1 (q .min) (q .max) (q .period * slotsIn F) (f .min-least) (f .least) (f .most))
       (both-and (within 1 65535 (q .life)) (eqb (q .life % q .period) 0) (both-within 1 65535 (q .life) (f .life-least) (f .life-most))
       (eq-eqb (q .life % q .period) 0 (rw (f .life-whole) (mul-mod-left (suc (f .count)) (q .period)))))
   of-fields (transfer f) =
-      fields-transfer B q (f .kind)
+      fields-transfer F q (f .kind)
       ∙ no-refusal
       (both-within 1 65535 (q .period) (f .period-least) (f .period-most))
       (both-and (leb 1 (q .min)) (eqb (q .max) 0) (le-leb 1 (q .min) (f .min-least)) (eq-eqb (q .max) 0 (f .max-none)))

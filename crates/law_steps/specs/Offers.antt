@@ -12,13 +12,17 @@ use lib.ListN.{length}
 use borrow.Author.Tests.{not-false}
 use Rattle.spec_lists.specs.All.{All, stop, and}
 use Rattle.base_lists.specs.All.{head, tail, all-map, all-append, all-left, all-right}
-use Rattle.spec_model.specs.Requests.{Check, check, refusal, streamInRange, fractionChecks, wholeChecks, transferChecks, fieldChecks}
+use Rattle.spec_model.specs.Requests.{Check, check, refusal, fractionChecks, wholeChecks, transferChecks, fieldChecks}
 use Rattle.spec_model.specs.Answers.{fieldsAnswer}
 use Rattle.spec_model.specs.Entries.{entryOf}
 use Rattle.spec_model.specs.declared.Request.{Request}
 use Rattle.spec_model.specs.declared.Table.{Table}
+use Rattle.spec_model.specs.Names.{nameInRange}
+use Rattle.spec_model.specs.declared.Frame.{Frame}
+use Rattle.spec_model.specs.Frames.{slotsIn}
+use Rattle.spec_model.specs.Tables.{heldOf, mostHeld}
 use Rattle.spec_rules.specs.Ahead.{fitsAhead}
-use Rattle.spec_rules.specs.Calls.{places, heldOf, holds, offerAnswer}
+use Rattle.spec_rules.specs.Calls.{holds, offerAnswer}
 
 -- ---- lists of checks
 -- its numbers are those of refusals, at most m
@@ -67,22 +71,22 @@ numbered : {m : ℕ} (n : ℕ) {b : Bool} {cs : List Check} → 1 ≤ n → n �
 numbered n h k r = and (h, k) r
 
 -- ---- the checks of an offer but the last
-abbrev pub offerChecksBut : (held full : Bool) → ℕ → Request → List Check
-offerChecksBut held full B q =
-    check 10 (not (streamInRange (q .stream))) ∷ check 11 held ∷ (fieldChecks B q ++ (check 16 full ∷ []))
+abbrev pub offerChecksBut : (held full : Bool) → Frame → Request → List Check
+offerChecksBut held full F q =
+    check 10 (not (nameInRange (q .name))) ∷ check 11 held ∷ (fieldChecks F q ++ (check 16 full ∷ []))
 
 ranges-numbered : {x y z : Bool} → Numbered 15 (check 13 x ∷ check 14 y ∷ check 15 z ∷ [])
 ranges-numbered =
     numbered 13 (omega arith) (omega arith) (numbered 14 (omega arith) (omega arith) (numbered 15 (omega arith) (omega arith) stop))
 
-pub fields-numbered : (B : ℕ) (q : Request) → Numbered 15 (fieldChecks B q)
+pub fields-numbered : (F : Frame) (q : Request) → Numbered 15 (fieldChecks F q)
 unfolding fieldChecks
-fields-numbered B q = go (eqb (q .kind) 1) (eqb (q .kind) 2) (eqb (q .kind) 3)
+fields-numbered F q = go (eqb (q .kind) 1) (eqb (q .kind) 2) (eqb (q .kind) 3)
   where
     go : (x y z : Bool)
         → Numbered 15
-        (cond x (fractionChecks B (q .period) (q .min) (q .max) (q .life))
-        (cond y (wholeChecks B (q .period) (q .min) (q .max) (q .life))
+        (cond x (fractionChecks (slotsIn F) (q .period) (q .min) (q .max) (q .life))
+        (cond y (wholeChecks (slotsIn F) (q .period) (q .min) (q .max) (q .life))
         (cond z (transferChecks (q .period) (q .min) (q .max) (q .life))
         (check 12 true ∷ []))))
     go true y z = ranges-numbered
@@ -90,72 +94,72 @@ fields-numbered B q = go (eqb (q .kind) 1) (eqb (q .kind) 2) (eqb (q .kind) 3)
     go false false true = ranges-numbered
     go false false false = numbered 12 (omega arith) (omega arith) stop
 
-pub checks-numbered : (held full : Bool) (B : ℕ) (q : Request) → Numbered 16 (offerChecksBut held full B q)
-checks-numbered held full B q =
+pub checks-numbered : (held full : Bool) (F : Frame) (q : Request) → Numbered 16 (offerChecksBut held full F q)
+checks-numbered held full F q =
     numbered 10 (omega arith) (omega arith)
     (numbered 11 (omega arith) (omega arith)
-    (all-append (all-map (λ c n. (n .0, omega arith)) (fields-numbered B q)) (numbered 16 (omega arith) (omega arith) stop)))
+    (all-append (all-map (λ c n. (n .0, omega arith)) (fields-numbered F q)) (numbered 16 (omega arith) (omega arith) stop)))
 
 -- what an offer that passes them is
-pub record Passed (held full : Bool) (B : ℕ) (q : Request) : Type 0 where
-  pub name : streamInRange (q .stream) ≡ true
+pub record Passed (held full : Bool) (F : Frame) (q : Request) : Type 0 where
+  pub name : nameInRange (q .name) ≡ true
   pub free : held ≡ false
-  pub fields : fieldsAnswer B q ≡ 0
+  pub fields : fieldsAnswer F q ≡ 0
   pub place : full ≡ false
 
-pub checks-passed : (held full : Bool) (B : ℕ) (q : Request) → refusal (offerChecksBut held full B q) ≡ 0 → Passed held full B q
+pub checks-passed : (held full : Bool) (F : Frame) (q : Request) → refusal (offerChecksBut held full F q) ≡ 0 → Passed held full F q
 unfolding fieldsAnswer refusal
-checks-passed held full B q h =
-    let n = refusal-none (offerChecksBut held full B q) (checks-numbered held full B q) h in
+checks-passed held full F q h =
+    let n = refusal-none (offerChecksBut held full F q) (checks-numbered held full F q) h in
     let rest = tail (tail n) in
     let quiet : Check → Type 0 = λ c. c .applies ≡ false in
     record {
-      name = not-false (streamInRange (q .stream)) (head n);
+      name = not-false (nameInRange (q .name)) (head n);
       free = head (tail n);
-      fields = ap refusal (sym (append-nil (fieldChecks B q)))
-          ∙ none-refusal (all-left quiet (fieldChecks B q) (check 16 full ∷ []) rest) [];
-      place = head (all-right quiet (fieldChecks B q) (check 16 full ∷ []) rest);
+      fields = ap refusal (sym (append-nil (fieldChecks F q)))
+          ∙ none-refusal (all-left quiet (fieldChecks F q) (check 16 full ∷ []) rest) [];
+      place = head (all-right quiet (fieldChecks F q) (check 16 full ∷ []) rest);
     }
 
 -- ---- the answer, on a table
 module _ (t : Table) (q : Request) where
-  abbrev B : ℕ
-  B = t .interval .0
+  abbrev F : Frame
+  F = t .frame
 
   abbrev pub isFull : Bool
-  isFull = leb places (length (heldOf t))
+  isFull = leb mostHeld (length (heldOf t))
 
   abbrev pub hasTime : Bool
-  hasTime = fitsAhead B (entryOf q ∷ heldOf t)
+  hasTime = fitsAhead F (entryOf q ∷ heldOf t)
 
   -- all checks: those but the last, and the last
-  answer-checks : offerAnswer t q ≡ refusal (offerChecksBut (holds t (q .stream)) isFull B q ++ (check 17 (not hasTime) ∷ []))
+  answer-checks : offerAnswer t q ≡ refusal (offerChecksBut (holds t (q .name)) isFull F q ++ (check 17 (not hasTime) ∷ []))
   unfolding offerAnswer
   answer-checks =
-      ap (λ cs. refusal (check 10 (not (streamInRange (q .stream))) ∷ check 11 (holds t (q .stream)) ∷ cs))
-      (sym (append-assoc (fieldChecks B q) (check 16 isFull ∷ []) (check 17 (not hasTime) ∷ [])))
+      ap (λ cs. refusal (check 10 (not (nameInRange (q .name))) ∷ check 11 (holds t (q .name)) ∷ cs))
+      (sym (append-assoc (fieldChecks F q) (check 16 isFull ∷ []) (check 17 (not hasTime) ∷ [])))
 
-  pub offer-refused : refusal (offerChecksBut (holds t (q .stream)) isFull B q) ≢ 0
-      → offerAnswer t q ≡ refusal (offerChecksBut (holds t (q .stream)) isFull B q)
-  offer-refused h = answer-checks ∙ refusal-stops (offerChecksBut (holds t (q .stream)) isFull B q) (check 17 (not hasTime) ∷ []) h
+  pub offer-refused : refusal (offerChecksBut (holds t (q .name)) isFull F q) ≢ 0
+      → offerAnswer t q ≡ refusal (offerChecksBut (holds t (q .name)) isFull F q)
+  offer-refused h = answer-checks ∙ refusal-stops (offerChecksBut (holds t (q .name)) isFull F q) (check 17 (not hasTime) ∷ []) h
 
-  pub offer-passed : refusal (offerChecksBut (holds t (q .stream)) isFull B q) ≡ 0 → offerAnswer t q ≡ cond (not hasTime) 17 0
+  pub offer-passed : refusal (offerChecksBut (holds t (q .name)) isFull F q) ≡ 0 → offerAnswer t q ≡ cond (not hasTime) 17 0
   unfolding refusal
   offer-passed h =
       answer-checks
       ∙ none-refusal
-      (refusal-none (offerChecksBut (holds t (q .stream)) isFull B q) (checks-numbered (holds t (q .stream)) isFull B q) h)
+      (refusal-none (offerChecksBut (holds t (q .name)) isFull F q) (checks-numbered (holds t (q .name)) isFull F q) h)
       (check 17 (not hasTime) ∷ [])
 
   -- 0 where looking ahead says yes, and 17 where it says no
-  pub answer-fits : refusal (offerChecksBut (holds t (q .stream)) isFull B q) ≡ 0 → offerAnswer t q ≡ 0 → hasTime ≡ true
+  pub answer-fits : refusal (offerChecksBut (holds t (q .name)) isFull F q) ≡ 0 → offerAnswer t q ≡ 0 → hasTime ≡ true
   answer-fits h a = go hasTime (sym (offer-passed h) ∙ a)
     where
       go : (b : Bool) → _≡_ {A = ℕ} (cond (not b) 17 0) 0 → b ≡ true
       go true z = refl
       go false z = absurd (omega arith)
 
-  pub answer-not : refusal (offerChecksBut (holds t (q .stream)) isFull B q) ≡ 0 → offerAnswer t q ≡ 17 → hasTime ≡ false
+  pub answer-not : refusal (offerChecksBut (holds t (q .name)) isFull F q) ≡ 0 → offerAnswer t q ≡ 17 → hasTime ≡ false
   answer-not h a = go hasTime (sym (offer-passed h) ∙ a)
     where
       go : (b : Bool) → _≡_ {A = ℕ} (cond (not b) 17 0) 17 → b ≡ false
@@ -163,14 +167,14 @@ module _ (t : Table) (q : Request) where
       go false z = refl
 
   -- an offer that answers 0 or 17 has passed every other check
-  pub answer-passed : (offerAnswer t q ≡ 0) ⊎ (offerAnswer t q ≡ 17) → refusal (offerChecksBut (holds t (q .stream)) isFull B q) ≡ 0
+  pub answer-passed : (offerAnswer t q ≡ 0) ⊎ (offerAnswer t q ≡ 17) → refusal (offerChecksBut (holds t (q .name)) isFull F q) ≡ 0
   answer-passed h = go (ℕ-discrete (refusal cs) 0)
     where
       cs : List Check
-      cs = offerChecksBut (holds t (q .stream)) isFull B q
+      cs = offerChecksBut (holds t (q .name)) isFull F q
 
       go : Dec (refusal cs ≡ 0) → refusal cs ≡ 0
       go (yes z) = z
       go (no z) =
           absurd (⊎-elim (λ a. z (sym (offer-refused z) ∙ a))
-          (λ a. (let m = refusal-most 16 cs (checks-numbered (holds t (q .stream)) isFull B q) in omega (arith, offer-refused z))) h)
+          (λ a. (let m = refusal-most 16 cs (checks-numbered (holds t (q .name)) isFull F q) in omega (arith, offer-refused z))) h)

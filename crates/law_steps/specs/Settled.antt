@@ -11,14 +11,14 @@ use native.Mathlib.Omega.{arith}
 use lib.Dec.{eqb}
 use borrow.Author.Tests.{eq-eqb, ne-eqb}
 use Rattle.base_lists.specs.Tests.{and-false}
-use Rattle.spec_model.specs.Requests.{streamInRange}
-use Rattle.spec_model.specs.Answers.{fieldsAnswer}
+use Rattle.spec_model.specs.Answers.{fieldsAnswer, requestOf}
 use Rattle.spec_model.specs.Entries.{freeEntry, isKind, isPiece}
-use Rattle.spec_model.specs.Answers.{requestOf}
 use Rattle.spec_model.specs.declared.Entry.{Entry}
 use Rattle.spec_model.specs.declared.Request.{Request}
-use Rattle.spec_rules.specs.Share.{headroom}
-use Rattle.spec_rules.specs.Ahead.{passed, renewed, settled}
+use Rattle.spec_model.specs.Names.{nameInRange}
+use Rattle.spec_model.specs.declared.Frame.{Frame}
+use Rattle.spec_rules.specs.Share.{loadOf, headroom}
+use Rattle.spec_rules.specs.Ahead.{standing, passed, renewed, settled}
 use Rattle.spec_rules.specs.WellFormed.{Held, Running}
 use Rattle.law_steps.specs.Held.{Fraction, Piece, held-kinds, piece-of, piece-other, not-fraction}
 
@@ -34,20 +34,7 @@ pub record Granted (b c : ℕ) (e : Entry) : Type 0 where
 
 -- a life one shorter, all else the same
 abbrev pub aged : Entry → Entry
-aged e =
-    record {
-      stream = e .stream;
-      kind = e .kind;
-      parts = e .parts;
-      period = e .period;
-      min = e .min;
-      max = e .max;
-      life = e .life;
-      «life_left» = record { 0 = e .«life_left» .0 - 1 };
-      owed = e .owed;
-      given = e .given;
-      left = e .left;
-    }
+aged e = standing e (e .«life_left» .0 - 1) (e .owed .0) (e .given .0) (e .left .0)
 
 -- ---- any entry
 pub after-free : (b c : ℕ) → after b c freeEntry ≡ freeEntry
@@ -87,6 +74,11 @@ module _ (b c : ℕ) (e : Entry) where
         | no h ↦ after-kept (λ x. x .«life_left» .0) (e .«life_left» .0 - 1) refl refl (omega arith)
       ]
 
+  -- what stays takes of an interval what it took
+  pub after-load : 2 ≤ e .«life_left» .0 → loadOf (after b c e) ≡ loadOf e
+  unfolding renewed passed
+  after-load h = after-kept loadOf (loadOf e) refl refl h
+
   pub after-request : (after b c e ≡ freeEntry) ⊎ (requestOf (after b c e) ≡ requestOf e)
   unfolding renewed passed requestOf
   after-request =
@@ -101,23 +93,13 @@ pub data FractionFate (b c : ℕ) (e : Entry) : Type 0 where
   ended : e .«life_left» .0 ≡ 1 → after b c e ≡ freeEntry → FractionFate b c e
   ages : 2 ≤ e .«life_left» .0 → after b c e ≡ aged e → FractionFate b c e
 
-module _ (b c : ℕ) {B : ℕ} {e : Entry} (f : Fraction B e) where
+module _ (b c : ℕ) {F : Frame} {e : Entry} (f : Fraction F e) where
   -- the slots of an interval count for nothing after it
   fraction-passed : passed b c e ≡ aged e
   unfolding passed
-  fraction-passed = λ i. record {
-    stream = e .stream;
-    kind = e .kind;
-    parts = e .parts;
-    period = e .period;
-    min = e .min;
-    max = e .max;
-    life = e .life;
-    «life_left» = record { 0 = e .«life_left» .0 - 1 };
-    owed = record { 0 = none (e .owed .0 - b) (f .owed) i };
-    given = record { 0 = none (e .given .0 + b + c) (f .given) i };
-    left = record { 0 = none (e .left .0 - 1) (f .left) i };
-  }
+  fraction-passed =
+      λ i. standing e (e .«life_left» .0 - 1) (none (e .owed .0 - b) (f .owed) i) (none (e .given .0 + b + c) (f .given) i)
+      (none (e .left .0 - 1) (f .left) i)
     where
       none : (x : ℕ) {y : ℕ} → y ≡ 0 → cond (isKind 1 e) 0 x ≡ y
       none x h = rw (eq-eqb (e .kind) 1 (f .kind)) (sym h)
@@ -131,12 +113,12 @@ module _ (b c : ℕ) {B : ℕ} {e : Entry} (f : Fraction B e) where
 
 -- ---- a piece
 -- it leaves at its last deadline, begins its next period, or goes on in this one
-pub data PieceFate (b c : ℕ) {B : ℕ} {e : Entry} (p : Piece B e) : Type 0 where
+pub data PieceFate (b c : ℕ) {F : Frame} {e : Entry} (p : Piece F e) : Type 0 where
   over : e .left .0 ≡ 1 → e .«life_left» .0 ≡ 1 → p .following ≡ 0 → after b c e ≡ freeEntry → PieceFate b c p
   anew : (j : ℕ) → e .kind ≡ 2 → e .left .0 ≡ 1 → p .following ≡ suc j → after b c e ≡ renewed (passed b c e) → PieceFate b c p
   on : (l : ℕ) → e .left .0 ≡ suc (suc l) → after b c e ≡ passed b c e → PieceFate b c p
 
-module _ (b c : ℕ) {B : ℕ} {e : Entry} (p : Piece B e) where
+module _ (b c : ℕ) {F : Frame} {e : Entry} (p : Piece F e) where
   -- its intervals left are one fewer
   piece-left : passed b c e .left .0 ≡ e .left .0 - 1
   unfolding passed
@@ -175,7 +157,7 @@ headroom-whole e b k = rw k
 pub headroom-transfer : (e : Entry) (b : ℕ) → e .kind ≡ 3 → headroom e b ≡ 0
 headroom-transfer e b k = rw k
 
-module _ (b c : ℕ) {B : ℕ} {e : Entry} (p : Piece B e) where
+module _ (b c : ℕ) {F : Frame} {e : Entry} (p : Piece F e) where
   -- what is owed after a grant is the minimum less what was had
   owed-after : Granted b c e → e .owed .0 - b ≡ e .min .0 - (e .given .0 + b + c)
   owed-after g = go (g .last (piece-of e (p .kind)))
@@ -217,14 +199,14 @@ module _ (b c : ℕ) {B : ℕ} {e : Entry} (p : Piece B e) where
       }
 
 -- an entry with the request of a held one and no more life than that, and with what entries of its kind have besides
-still-held : {B : ℕ} {e : Entry} → Held B e → (x : Entry) → requestOf x ≡ requestOf e → 1 ≤ x .«life_left» .0
+still-held : {F : Frame} {e : Entry} → Held F e → (x : Entry) → requestOf x ≡ requestOf e → 1 ≤ x .«life_left» .0
     → x .«life_left» .0 ≤ e .«life_left» .0
-    → (x .kind ≡ 1 → (x .period .0 ≡ 0) × (x .owed .0 ≡ 0) × (x .given .0 ≡ 0) × (x .left .0 ≡ 0)) → (x .kind ≢ 1 → Running x) → Held B x
+    → (x .kind ≡ 1 → (x .period .0 ≡ 0) × (x .owed .0 ≡ 0) × (x .given .0 ≡ 0) × (x .left .0 ≡ 0)) → (x .kind ≢ 1 → Running x) → Held F x
 unfolding requestOf
-still-held {B} {e} h x q a l f r =
+still-held {F} {e} h x q a l f r =
     record {
-      name = ap (λ (v : Request). streamInRange (v .stream)) q ∙ h .name;
-      fields = ap (fieldsAnswer B) q ∙ h .fields;
+      name = ap (λ (v : Request). nameInRange (v .name)) q ∙ h .name;
+      fields = ap (fieldsAnswer F) q ∙ h .fields;
       alive = a;
       life = omega (arith, h .life, ap (λ (v : Request). v .life) q);
       fraction = f;
@@ -232,24 +214,24 @@ still-held {B} {e} h x q a l f r =
     }
 
 -- x, which e became, is a free place or is held for e's stream
-abbrev pub Stays : ℕ → Entry → Entry → Type 0
-Stays B e x = (x ≡ freeEntry) ⊎ ((x .stream ≡ e .stream) × Held B x)
+abbrev pub Stays : Frame → Entry → Entry → Type 0
+Stays F e x = (x ≡ freeEntry) ⊎ ((x .name ≡ e .name) × Held F x)
 
 -- By what becomes of the entry. No field that was offered changes and the life gets shorter, so what is to be seen is that a
 -- piece still stands rightly in its period.
-pub settled-held : (B b c : ℕ) (e : Entry) → Held B e → Granted b c e → Stays B e (after b c e)
+pub settled-held : (F : Frame) (b c : ℕ) (e : Entry) → Held F e → Granted b c e → Stays F e (after b c e)
 unfolding passed renewed requestOf
-settled-held B b c e h g = elim (held-kinds h) [
+settled-held F b c e h g = elim (held-kinds h) [
   | inl f ↦ fraction-stays f (fraction-fate b c f)
   | inr p ↦ piece-stays p (piece-fate b c p)
 ]
   where
-    fraction-stays : Fraction B e → FractionFate b c e → Stays B e (after b c e)
+    fraction-stays : Fraction F e → FractionFate b c e → Stays F e (after b c e)
     fraction-stays f (ended l q) = inl q
     fraction-stays f (ages l q) =
         rw q (inr (refl, still-held h (aged e) refl (omega arith) (omega arith) (h .fraction) (λ n. absurd (n (f .kind)))))
 
-    piece-stays : (p : Piece B e) → PieceFate b c p → Stays B e (after b c e)
+    piece-stays : (p : Piece F e) → PieceFate b c p → Stays F e (after b c e)
     piece-stays p (over l a j q) = inl q
     piece-stays p (anew j k l f q) =
         let r = renewed-running b c p j l f in

@@ -9,7 +9,7 @@ use native.Mathlib.Omega.{arith}
 use lib.Dec.{eqb}
 use lib.ListN.{length, take, drop}
 use borrow.Author.Tests.{eq-eqb, ne-eqb}
-use Rattle.spec_rules.specs.Calls.{recordWords}
+use Rattle.spec_rules.specs.Records.{recordWords}
 use Rattle.spec_rules.specs.Reading.{startsOf, before, windowAnswer, windowPart}
 use Rattle.plan_window.specs.declared.Bounds.{Bounds}
 use Rattle.plan_window.specs.Laws.{window-ends, window-part, window-none}

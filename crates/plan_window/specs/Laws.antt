@@ -1,5 +1,5 @@
--- Laws of the window that its code cites: the starts of a plan's first n records as the plan's words, the two loops over them turn by
--- turn, the answer by the tests that the code makes, and the ends of the part. Assumes nothing.
+-- Laws of the window that its code cites: the two loops over the starts of a plan's first n records turn by turn, the answer by the tests
+-- that the code makes, and the ends of the part. Assumes nothing.
 use mathlib.Core.Path.{_≡_, refl, sym, ap, _∙_}
 use mathlib.Core.Logic.{⊎-elim, _≢_}
 use mathlib.Core.Bool.{Bool, true, false, cond, not, _&&_}
@@ -14,30 +14,11 @@ use borrow.Author.Tests.{lt-ltb, le-ltb, ltb-true, ltb-false, ne-eqb}
 use Rattle.base_lists.specs.Tests.{either}
 use Rattle.base_lists.specs.Loops.{left-next}
 use Rattle.spec_model.specs.Requests.{check, refusal}
-use Rattle.spec_rules.specs.Calls.{recordWords}
+use Rattle.spec_rules.specs.Records.{recordWords}
 use Rattle.spec_rules.specs.Reading.{startsOf, rises, before, windowAnswer, windowPart}
+use Rattle.plan_record.specs.Starts.{startAt, starts-length, start-at}
 
--- ---- the starts of the first n records
-starts-length : (n : ℕ) (ws : List ℕ) → length (startsOf n ws) ≡ n
-unfolding startsOf
-starts-length zero ws = refl
-starts-length (suc n) ws = ap suc (starts-length n (drop recordWords ws))
-
--- the i-th in the plan
-abbrev pub startAt : List ℕ → ℕ → ℕ
-startAt ws i = getD ws (recordWords * i + 2) 0
-
-start-at : (n : ℕ) (ws : List ℕ) (i : ℕ) → i < n → getD (startsOf n ws) i 0 ≡ startAt ws i
-unfolding startsOf
-start-at zero ws i h = absurd (not-suc-le-zero h)
-start-at (suc n) ws zero h = refl
-start-at (suc n) ws (suc i) h =
-    let e : recordWords + (recordWords * i + 2) ≡ recordWords * suc i + 2 = omega arith in
-    start-at n (drop recordWords ws) i (le-of-suc-le-suc h)
-    ∙ getD-drop recordWords ws (recordWords * i + 2) 0
-    ∙ ap (λ k. getD ws k 0) e
-
--- ---- the loops over them: i are passed, and what is left gives what the whole gives. s is the start that a turn reads.
+-- ---- the loops over the starts: i are passed, and what is left gives what the whole gives. s is the start that a turn reads.
 module _ (n : ℕ) (ws : List ℕ) where
   abbrev starts : List ℕ
   starts = startsOf n ws

@@ -3,18 +3,11 @@
 ghost use mathlib.Core.Path.{_≡_};
 ghost use Prim.Native.Nat.{_+_, _*_, _-_, _≤_};
 ghost use lib.ListN.{length, take, drop};
-ghost use Rattle.spec_rules.specs.Calls.{recordWords};
+ghost use Rattle.spec_rules.specs.Records.{recordWords};
 ghost use Rattle.spec_rules.specs.Reading.{startsOf, rises, before, windowAnswer, windowPart};
-ghost use Rattle.plan_window.specs.Laws.{startAt, Passed};
+ghost use Rattle.plan_window.specs.Laws.{Passed};
 ghost use Rattle.plan_window.specs.Ends.{boundsOf};
-
-// The start of the i-th record.
-fn start_of(plan: &[u32], i: usize) -> u32
-    requires { ⌜ recordWords * (i + 1) ≤ length (now plan) ⌝ }
-    ensures { λ r. ⌜ r ≡ startAt (now (plan .entry)) i ⌝ }
-{
-    plan[4 * i + 2]
-}
+use spec_model::Slots;
 
 // Whether each record starts after the one before it.
 fn starts_rise(plan: &[u32], count: usize) -> bool
@@ -23,7 +16,9 @@ fn starts_rise(plan: &[u32], count: usize) -> bool
 {
     let mut i = 0;
     while i + 1 < count {
-        if start_of(plan, i + 1) <= start_of(plan, i) {
+        let next = plan_record::start_of(plan, i + 1);
+        let last = plan_record::start_of(plan, i);
+        if next.0 <= last.0 {
             return false;
         }
         i += 1;
@@ -32,13 +27,14 @@ fn starts_rise(plan: &[u32], count: usize) -> bool
 }
 
 // The number of the first record that starts at slot or later; the count where there is none. It is looked for behind those passed.
-fn first_from(plan: &[u32], count: usize, passed: usize, slot: u32) -> usize
-    requires { ⌜ (recordWords * count ≤ length (now plan)) × Passed count (now plan) passed slot ⌝ }
-    ensures { λ r. ⌜ r ≡ before slot (startsOf count (now (plan .entry))) ⌝ }
+fn first_from(plan: &[u32], count: usize, passed: usize, slot: Slots) -> usize
+    requires { ⌜ (recordWords * count ≤ length (now plan)) × Passed count (now plan) passed (slot .0) ⌝ }
+    ensures { λ r. ⌜ r ≡ before (slot .0) (startsOf count (now (plan .entry))) ⌝ }
 {
     let mut i = passed;
     while i < count {
-        if slot <= start_of(plan, i) {
+        let start = plan_record::start_of(plan, i);
+        if slot.0 <= start.0 {
             return i;
         }
         i += 1;
@@ -46,14 +42,14 @@ fn first_from(plan: &[u32], count: usize, passed: usize, slot: u32) -> usize
     i
 }
 
-// The records that fit the plan are counted, since four times the count may be more than a number holds.
-fn answer_of(plan: &[u32], count: usize, from: u32, until: u32) -> u32
-    ensures { λ r. ⌜ r ≡ windowAnswer (now (plan .entry)) count from until ⌝ }
+// The records that fit the plan are counted, since their words may be more than a number holds.
+fn answer_of(plan: &[u32], count: usize, from: Slots, until: Slots) -> u32
+    ensures { λ r. ⌜ r ≡ windowAnswer (now (plan .entry)) count (from .0) (until .0) ⌝ }
 {
-    if plan.len() / 4 < count {
+    if plan.len() / spec_model::RECORD_WORDS < count {
         return call_answers::TOO_MANY_RECORDS;
     }
-    if until < from {
+    if until.0 < from.0 {
         return call_answers::FROM_AFTER_UNTIL;
     }
     if starts_rise(plan, count) {
@@ -70,8 +66,8 @@ pub struct Bounds {
 }
 
 // One pass finds both ends: no record before the first starts at until or later.
-pub fn bounds_of(plan: &[u32], count: usize, from: u32, until: u32) -> Bounds
-    ensures { λ r. ⌜ r ≡ boundsOf (now (plan .entry)) count from until ⌝ }
+pub fn bounds_of(plan: &[u32], count: usize, from: Slots, until: Slots) -> Bounds
+    ensures { λ r. ⌜ r ≡ boundsOf (now (plan .entry)) count (from .0) (until .0) ⌝ }
 {
     let answer = answer_of(plan, count, from, until);
     if answer != 0 {
@@ -91,19 +87,19 @@ fn records<'a>(plan: &'a [u32], first: usize, end: usize) -> &'a [u32]
     requires { ⌜ (first ≤ end) × (recordWords * end ≤ length (now plan)) ⌝ }
     ensures { λ r. ⌜ now r ≡ take (recordWords * end - recordWords * first) (drop (recordWords * first) (now (plan .entry))) ⌝ }
 {
-    &plan[4 * first..4 * end]
+    &plan[spec_model::RECORD_WORDS * first..spec_model::RECORD_WORDS * end]
 }
 
 // Refused, the part is empty.
 pub fn window<'a>(
     plan: &'a [u32],
     count: usize,
-    from: u32,
-    until: u32,
+    from: Slots,
+    until: Slots,
     answer: &mut u32,
 ) -> &'a [u32]
-    ensures { λ r. ⌜ (now r ≡ windowPart (now (plan .entry)) count from until)
-        × (now (answer .exit) ≡ windowAnswer (now (plan .entry)) count from until) ⌝ }
+    ensures { λ r. ⌜ (now r ≡ windowPart (now (plan .entry)) count (from .0) (until .0))
+        × (now (answer .exit) ≡ windowAnswer (now (plan .entry)) count (from .0) (until .0)) ⌝ }
 {
     let b = bounds_of(plan, count, from, until);
     *answer = b.answer;

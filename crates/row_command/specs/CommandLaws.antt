@@ -1,21 +1,21 @@
 -- A command is its verb with its numbers. Assumes nothing.
 use mathlib.Core.Path.{_≡_, refl, sym}
-use mathlib.Core.Bool.{Bool, true, false, cond, _&&_}
-use mathlib.Core.List.{List, [], map}
+use mathlib.Core.Bool.{Bool, true, false, cond}
+use mathlib.Core.List.{List}
 use mathlib.Core.Logic.{⊎-elim}
 use Prim.Native.Nat.{ℕ, _≤_, _<_}
-use lib.Dec.{eqb}
-use lib.ListN.{length, take, drop, getD, List·getD-map}
+use lib.ListN.{length, take, drop}
 use borrow.Author.Tests.{le-leb, lt-leb}
 use Rattle.spec_lists.specs.Lists.{sameList}
 use Rattle.base_lists.specs.Tests.{same-list, either}
-use Rattle.spec_text.specs.Fields.{spelt, valueOf, filled, numberAt}
+use Rattle.spec_text.specs.declared.Field.{Field}
+use Rattle.spec_text.specs.Fields.{hasFields, numbersOf}
 use Rattle.spec_text.specs.Rows.{rowMost}
 use Rattle.row_fields.specs.FieldLaws.{toComma, fieldsAfter, fields-first, part, part-rest}
 use Rattle.row_fields.specs.declared.Numbers.{Numbers}
 use Rattle.row_fields.specs.FieldReads.{fieldsRead, noNumbers}
-use Rattle.spec_shelf.specs.Commands.{commandOf, fromFields, called, requestFrom, openVerb, offerVerb, withdrawVerb, beaconVerb}
-use Rattle.row_command.specs.Reads.{verbOf, countOf, asked}
+use Rattle.spec_shelf.specs.Commands.{commandOf, fromFields, called, beaconForm, openVerb, offerVerb, withdrawVerb, beaconVerb}
+use Rattle.row_command.specs.Reads.{verbOf, formOf, asked}
 use Rattle.spec_shelf.specs.declared.Command.{Command}
 use Rattle.spec_shelf.specs.declared.Command.the-variants.{OtherForm}
 use Rattle.row_command.specs.declared.Verb.{Verb}
@@ -27,13 +27,9 @@ cond-same true a = refl
 cond-same false a = refl
 
 module _ (fs : List (List ℕ)) where
-  number-at : (i : ℕ) → numberAt i fs ≡ getD (map valueOf fs) i 0
-  unfolding spelt
-  number-at i = sym (List·getD-map valueOf fs i [])
-
   -- the verb with its numbers, where they are there
   abbrev askedIf : Verb → Command
-  askedIf v = cond (filled (countOf v) fs) (asked v (map valueOf fs)) OtherForm
+  askedIf v = cond (hasFields (formOf v) fs) (asked v (numbersOf (formOf v) fs)) OtherForm
 
   module _ (v : List ℕ) where
     abbrev Same : Type 0
@@ -42,14 +38,14 @@ module _ (fs : List (List ℕ)) where
     unknown : sameList v openVerb ≡ false → sameList v offerVerb ≡ false → sameList v withdrawVerb ≡ false
         → sameList v beaconVerb ≡ false → Same
     unfolding called verbOf
-    unknown a b c d = rw (a, b, c, d) (sym (cond-same (filled 0 fs) OtherForm))
+    unknown a b c d = rw (a, b, c, d) (sym (cond-same (hasFields beaconForm fs) OtherForm))
 
     called-asked : Same
-    unfolding called verbOf requestFrom
+    unfolding called verbOf
     called-asked =
-        ⊎-elim (λ t. rw (same-list v openVerb t) (simp number-at)) (λ a.
-        ⊎-elim (λ t. rw (same-list v offerVerb t) (simp number-at)) (λ b.
-        ⊎-elim (λ t. rw (same-list v withdrawVerb t) (simp number-at)) (λ d.
+        ⊎-elim (λ t. rw (same-list v openVerb t)) (λ a.
+        ⊎-elim (λ t. rw (same-list v offerVerb t)) (λ b.
+        ⊎-elim (λ t. rw (same-list v withdrawVerb t)) (λ d.
         ⊎-elim (λ t. rw (same-list v beaconVerb t)) (λ e. unknown a b d e)
         (either (sameList v beaconVerb)))
         (either (sameList v withdrawVerb)))
@@ -60,25 +56,24 @@ module _ (fs : List (List ℕ)) where
 abbrev byVerb : Verb → Numbers → Command
 byVerb v ns = cond (ns .good) (asked v (ns .values)) OtherForm
 
-both-read : (v : Verb) (ns : List ℕ) (a b : Bool)
-    → cond a (cond b (asked v ns) OtherForm) OtherForm ≡ byVerb v (cond (a && b) (record { good = true; values = ns }) noNumbers)
-both-read v ns true true = refl
-both-read v ns true false = refl
-both-read v ns false b = refl
+both-read : (v : Verb) (ns : List ℕ) (a : Bool)
+    → cond a (asked v ns) OtherForm ≡ byVerb v (cond a (record { good = true; values = ns }) noNumbers)
+both-read v ns true = refl
+both-read v ns false = refl
 
 module _ (row : List ℕ) where
   pub row-long : rowMost < length row → OtherForm ≡ commandOf row
   unfolding commandOf
   row-long h = rw (lt-leb (length row) rowMost h)
 
-  module _ (v : Verb) (ns : Numbers) {end count : ℕ} (h : length row ≤ rowMost) (e : end ≡ toComma row) (f : v ≡ verbOf (take end row))
-      (g : count ≡ countOf v) (k : ns ≡ fieldsRead count (fieldsAfter (part end (length row) row))) where
+  module _ (v : Verb) (ns : Numbers) {end : ℕ} {form : List Field} (h : length row ≤ rowMost) (e : end ≡ toComma row)
+      (f : v ≡ verbOf (take end row)) (g : form ≡ formOf v) (k : ns ≡ fieldsRead form (fieldsAfter (part end (length row) row))) where
     is-read : byVerb v ns ≡ commandOf row
     unfolding commandOf fromFields fieldsRead
     is-read =
         let fs = fieldsAfter (drop end row) in
         rw (le-leb (length row) rowMost h, fields-first row, ← e, called-asked fs (take end row), ← f, k, g, part-rest)
-        (sym (both-read v (map valueOf fs) (eqb (length fs) 6) (filled (countOf v) fs)))
+        (sym (both-read v (numbersOf (formOf v) fs) (hasFields (formOf v) fs)))
 
     pub row-read : {t : Bool} → ns .good ≡ t → cond t (asked v (ns .values)) OtherForm ≡ commandOf row
     row-read q = rw (← q) is-read

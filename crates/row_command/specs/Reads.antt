@@ -2,9 +2,10 @@
 use Prim.Native.Nat.{ℕ}
 use mathlib.Core.Bool.{cond}
 use mathlib.Core.List.{List}
-use lib.ListN.{getD}
 use Rattle.spec_lists.specs.Lists.{sameList}
+use Rattle.spec_text.specs.declared.Field.{Field}
 use Rattle.spec_shelf.specs.Commands.{openVerb, offerVerb, withdrawVerb, beaconVerb}
+use Rattle.spec_shelf.specs.Commands.{openForm, offerForm, withdrawForm, beaconForm, settingFrom, nameFrom, requestFrom}
 use Rattle.spec_shelf.specs.declared.Command.{Command}
 use Rattle.spec_shelf.specs.declared.Command.the-variants.{Open, Offer, Withdraw, Beacon, OtherForm}
 use Rattle.row_command.specs.declared.Verb.{Verb}
@@ -17,25 +18,18 @@ verbOf v =
     (cond (sameList v withdrawVerb) verb.Withdraw
     (cond (sameList v beaconVerb) verb.Beacon verb.Unknown)))
 
--- the numbers that stand after a verb
-abbrev pub countOf : Verb → ℕ
-countOf verb.Open = 1
-countOf verb.Offer = 6
-countOf verb.Withdraw = 1
-countOf verb.Beacon = 0
-countOf verb.Unknown = 0
+-- what it asks of the fields after it; of an unknown verb nothing is asked for
+abbrev pub formOf : Verb → List Field
+formOf verb.Open = openForm
+formOf verb.Offer = offerForm
+formOf verb.Withdraw = withdrawForm
+formOf verb.Beacon = beaconForm
+formOf verb.Unknown = beaconForm
 
--- a verb with its numbers
+-- the verb with its numbers
 abbrev pub asked : Verb → List ℕ → Command
-asked verb.Open ns = Open (getD ns 0 0)
-asked verb.Offer ns = Offer (record {
-  stream = getD ns 0 0;
-  kind = getD ns 1 0;
-  period = getD ns 2 0;
-  min = getD ns 3 0;
-  max = getD ns 4 0;
-  life = getD ns 5 0;
-})
-asked verb.Withdraw ns = Withdraw (getD ns 0 0)
+asked verb.Open ns = Open (settingFrom ns)
+asked verb.Offer ns = Offer (requestFrom ns)
+asked verb.Withdraw ns = Withdraw (nameFrom ns)
 asked verb.Beacon ns = Beacon
 asked verb.Unknown ns = OtherForm

@@ -1,9 +1,14 @@
 // What a row asks for. Document 01, "Reading, lending, printing".
 ghost use mathlib.Core.Path.{_≡_};
-ghost use Rattle.spec_shelf.specs.Commands.{commandOf};
-ghost use Rattle.row_command.specs.Reads.{verbOf, countOf, asked};
+ghost use Rattle.spec_shelf.specs.Commands.{settingFrom, nameFrom, requestFrom, commandOf};
+ghost use Rattle.row_command.specs.Reads.{verbOf, formOf, asked};
+use spec_model::Name;
 use spec_model::Request;
+use spec_model::Setting;
 use spec_shelf::Command;
+use spec_text::FIELDS;
+use spec_text::Field;
+use spec_text::ROW_MOST;
 
 enum Verb {
     Open,
@@ -13,7 +18,28 @@ enum Verb {
     Unknown,
 }
 
-const ROW_MOST: usize = 64;
+// What each verb asks of the fields after it.
+const OPEN_FORM: [Field; FIELDS] = [
+    Field::Needed,
+    Field::Empty,
+    Field::Empty,
+    Field::Empty,
+    Field::Empty,
+    Field::Empty,
+];
+
+const OFFER_FORM: [Field; FIELDS] = [Field::Needed; FIELDS];
+
+const WITHDRAW_FORM: [Field; FIELDS] = [
+    Field::Needed,
+    Field::Empty,
+    Field::Empty,
+    Field::Empty,
+    Field::Empty,
+    Field::Empty,
+];
+
+const BEACON_FORM: [Field; FIELDS] = [Field::Empty; FIELDS];
 
 fn verb_of(field: &[u8]) -> Verb
     ensures { λ r. ⌜ r ≡ verbOf (now (field .entry)) ⌝ }
@@ -33,34 +59,59 @@ fn verb_of(field: &[u8]) -> Verb
     Verb::Unknown
 }
 
-// How many numbers a verb needs.
-fn count_of(verb: Verb) -> usize
-    ensures { λ r. ⌜ r ≡ countOf verb ⌝ }
+// The form of a verb; of an unknown one nothing is asked for.
+fn form_of(verb: Verb) -> [Field; FIELDS]
+    ensures { λ r. ⌜ r ≡ formOf verb ⌝ }
 {
     match verb {
-        Verb::Open => 1,
-        Verb::Offer => 6,
-        Verb::Withdraw => 1,
-        Verb::Beacon => 0,
-        Verb::Unknown => 0,
+        Verb::Open => OPEN_FORM,
+        Verb::Offer => OFFER_FORM,
+        Verb::Withdraw => WITHDRAW_FORM,
+        Verb::Beacon => BEACON_FORM,
+        Verb::Unknown => BEACON_FORM,
+    }
+}
+
+// What the numbers of a row say, in its verb's terms.
+fn setting_from(values: [u32; FIELDS]) -> Setting
+    ensures { λ r. ⌜ r ≡ settingFrom values ⌝ }
+{
+    Setting { units: values[0] }
+}
+
+fn name_from(values: [u32; FIELDS]) -> Name
+    ensures { λ r. ⌜ r ≡ nameFrom values ⌝ }
+{
+    Name { stream: values[0] }
+}
+
+fn request_from(values: [u32; FIELDS]) -> Request
+    ensures { λ r. ⌜ r ≡ requestFrom values ⌝ }
+{
+    let name = name_from(values);
+    let kind = values[1];
+    let period = values[2];
+    let min = values[3];
+    let max = values[4];
+    let life = values[5];
+    Request {
+        name,
+        kind,
+        period,
+        min,
+        max,
+        life,
     }
 }
 
 // The verb with its numbers.
-fn asked_for(verb: Verb, values: [u32; 6]) -> Command
+fn asked_for(verb: Verb, values: [u32; FIELDS]) -> Command
     ensures { λ r. ⌜ r ≡ asked verb values ⌝ }
 {
     match verb {
-        Verb::Open => Command::Open(values[0]),
-        Verb::Offer => Command::Offer(Request {
-            stream: values[0],
-            kind: values[1],
-            period: values[2],
-            min: values[3],
-            max: values[4],
-            life: values[5],
-        }),
-        Verb::Withdraw => Command::Withdraw(values[0]),
+        Verb::Open => Command::Open(setting_from(values)),
+        Verb::Offer => Command::Offer(request_from(values)),
+        Verb::Withdraw => Command::Withdraw(name_from(values)),
         Verb::Beacon => Command::Beacon,
         Verb::Unknown => Command::OtherForm,
     }
@@ -75,7 +126,7 @@ pub fn command_of(row: &[u8]) -> Command
     }
     let end = row_fields::first_comma(row);
     let verb = verb_of(&row[..end]);
-    let numbers = row_fields::read_fields(&row[end..], count_of(verb));
+    let numbers = row_fields::read_fields(&row[end..], form_of(verb));
     if !numbers.good {
         return Command::OtherForm;
     }

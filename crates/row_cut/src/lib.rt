@@ -1,9 +1,7 @@
 // Rows of an input that comes in chunks of any size. The state between two chunks is a struct by value, and no chunk is kept.
 ghost use mathlib.Core.Path.{_≡_};
 ghost use Rattle.row_cut.specs.Lines.{lineIn, readerIn, cutAt, withByte, atStart, unheld, cutFrom};
-
-// The longest row before its CR LF.
-pub const ROW_MOST: usize = 64;
+use spec_text::ROW_MOST;
 
 // A row, or what is known of it so far. A length of 65 stands for every length above 64.
 pub struct Line {

@@ -1,18 +1,20 @@
--- Laws of fields: where they begin and end, one comma at a time; numbers, one digit at a time; and six fields, one by one. Assumes nothing.
+-- Laws of fields: where they begin and end, one comma at a time; numbers, one digit at a time; and the fields of a form, one by one. Assumes nothing.
 use mathlib.Core.Path.{_≡_, refl, sym, ap, _∙_}
 use mathlib.Core.Bool.{Bool, true, false, cond, _&&_}
 use mathlib.Core.List.{List, [], _∷_}
 use Prim.Native.Nat.{ℕ, suc, _+_, _*_, _-_, _≤_, _<_}
 use native.Mathlib.Omega.{arith}
-use lib.Dec.{leb, eqb, ltb}
-use borrow.Author.Tests.{ltb-true, ltb-false, eq-eqb, ne-eqb, le-leb, lt-leb}
+use lib.Dec.{leb, eqb}
+use borrow.Author.Tests.{eq-eqb, ne-eqb, le-leb, lt-leb}
 use lib.ListN.{length, take, drop, getD, length-drop, drop-of-length-le}
 use lib.Seq.{take-all, drop-drop}
 use Rattle.spec_lists.specs.Lists.{within}
 use Rattle.base_lists.specs.Loops.{left-next}
 use Rattle.base_lists.specs.Tests.{and-false}
 use Rattle.spec_text.specs.Rows.{onFirst}
-use Rattle.spec_text.specs.Fields.{comma, fieldsOf, allDigits, spelt, isNumber, isEmpty, filled}
+use Rattle.spec_text.specs.declared.Field.{Field}
+use Rattle.spec_text.specs.declared.Field.the-variants.{Needed}
+use Rattle.spec_text.specs.Fields.{comma, fieldsOf, allDigits, spelt, isNumber, fits, hasFields}
 
 -- the bytes before the first comma
 unfoldable pub toComma : List ℕ → ℕ
@@ -124,60 +126,27 @@ module _ (xs : List ℕ) (i v : ℕ) where
   unfolding spelt
   spelt-end h = rw (drop-of-length-le xs h)
 
--- ---- fields, one by one
--- a field that is needed, or is not
-abbrev pub asNeeded : Bool → List ℕ → Bool
-asNeeded needed f = cond needed (isNumber f) (isEmpty f)
+-- ---- fields, one by one, against what is left of a form
+module _ (k : Field) (ks : List Field) (f : List ℕ) (fs : List (List ℕ)) where
+  pub fit-passed : fits k f ≡ true → hasFields (k ∷ ks) (f ∷ fs) ≡ hasFields ks fs
+  unfolding hasFields
+  fit-passed h = rw h
 
--- i fields are passed, and the first n of all are numbers
-unfoldable pub fitFrom : (i n : ℕ) → List (List ℕ) → Bool
-fitFrom i n fs = eqb (i + length fs) 6 && filled (n - i) fs
+  pub fit-refused : fits k f ≡ false → hasFields (k ∷ ks) (f ∷ fs) ≡ false
+  unfolding hasFields
+  fit-refused h = rw h
 
-swap : (a b c : Bool) → (a && (b && c)) ≡ (b && (a && c))
-swap true b c = refl
-swap false true c = refl
-swap false false c = refl
+-- a field too few
+pub fit-none : (ks : List Field) (i : ℕ) → i < length ks → hasFields (drop i ks) [] ≡ false
+unfolding hasFields
+fit-none ks i h = rw (left-next ks i Needed h)
 
-module _ (i n : ℕ) (f : List ℕ) (fs : List (List ℕ)) where
-  filled-next : filled (n - i) (f ∷ fs) ≡ (asNeeded (ltb i n) f && filled (n - (i + 1)) fs)
-  unfolding filled
-  filled-next = go (ltb i n) refl
-    where
-      go : (t : Bool) → ltb i n ≡ t → filled (n - i) (f ∷ fs) ≡ (asNeeded t f && filled (n - (i + 1)) fs)
-      go true h = let e : n - i ≡ suc (n - (i + 1)) = omega (arith, ltb-true i n h) in rw e
-      go false h =
-          let e : n - i ≡ 0 = omega (arith, ltb-false i n h) in
-          let k : n - (i + 1) ≡ 0 = omega arith in
-          rw (e, k)
+pub fit-done : (ks : List Field) (i : ℕ) → length ks ≤ i → hasFields (drop i ks) [] ≡ true
+unfolding hasFields
+fit-done ks i h = rw (drop-of-length-le ks h)
 
-  fit-next : fitFrom i n (f ∷ fs) ≡ (asNeeded (ltb i n) f && fitFrom (i + 1) n fs)
-  unfolding fitFrom
-  fit-next =
-      let e : i + suc (length fs) ≡ i + 1 + length fs = omega arith in
-      rw (e, filled-next) (swap (eqb (i + 1 + length fs) 6) (asNeeded (ltb i n) f) (filled (n - (i + 1)) fs))
-
-  pub fit-passed : asNeeded (ltb i n) f ≡ true → fitFrom i n (f ∷ fs) ≡ fitFrom (i + 1) n fs
-  fit-passed h = fit-next ∙ rw h
-
-  pub fit-refused : asNeeded (ltb i n) f ≡ false → fitFrom i n (f ∷ fs) ≡ false
-  fit-refused h = fit-next ∙ rw h
-
-pub fit-all : (n : ℕ) (fs : List (List ℕ)) → fitFrom 0 n fs ≡ (eqb (length fs) 6 && filled n fs)
-unfolding fitFrom
-fit-all n fs = let e : 0 + length fs ≡ length fs = omega arith in let k : n - 0 ≡ n = omega arith in rw (e, k)
-
-pub fit-none : (i n : ℕ) → i < 6 → fitFrom i n [] ≡ false
-unfolding fitFrom
-fit-none i n h = rw (ne-eqb (i + 0) 6 (λ e. omega arith))
-
-pub fit-done : (n : ℕ) → fitFrom 6 n [] ≡ true
-unfolding fitFrom filled
-fit-done n = refl
-
--- a comma after six fields
-pub fit-over : (xs : List ℕ) (at n : ℕ) → at < length xs → fitFrom 6 n (fieldsAfter (drop at xs)) ≡ false
-unfolding fieldsAfter fitFrom
-fit-over xs at n h = rw (left-next xs at 0 h, fields-first (drop (at + 1) xs), seven)
-  where
-    seven : (k : ℕ) → eqb (6 + suc k) 6 ≡ false
-    seven k = ne-eqb (6 + suc k) 6 (λ e. omega arith)
+-- a comma after the last field
+pub fit-over : (ks : List Field) (i : ℕ) (xs : List ℕ) (at : ℕ) → length ks ≤ i → at < length xs
+    → hasFields (drop i ks) (fieldsAfter (drop at xs)) ≡ false
+unfolding fieldsAfter hasFields
+fit-over ks i xs at h k = rw (drop-of-length-le ks h, left-next xs at 0 k, fields-first (drop (at + 1) xs))

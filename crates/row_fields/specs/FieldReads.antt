@@ -1,11 +1,10 @@
--- What is read of one field and of six. Document 01, "Reading, lending, printing". Assumes nothing.
+-- What is read of one field and of all. Document 01, "Reading, lending, printing". Assumes nothing.
 use Prim.Native.Nat.{ℕ}
-use mathlib.Core.Bool.{Bool, true, false, cond, _&&_}
-use mathlib.Core.List.{List, map}
-use lib.Dec.{eqb}
-use lib.ListN.{length, replicate}
-use Rattle.spec_text.specs.Fields.{valueOf, filled}
-use Rattle.row_fields.specs.FieldLaws.{asNeeded}
+use mathlib.Core.Bool.{true, false, cond}
+use mathlib.Core.List.{List}
+use lib.ListN.{replicate}
+use Rattle.spec_text.specs.declared.Field.{Field}
+use Rattle.spec_text.specs.Fields.{fieldCount, fits, hasFields, numberIn, numbersOf}
 use Rattle.row_fields.specs.declared.Number.{Number}
 use Rattle.row_fields.specs.declared.Numbers.{Numbers}
 
@@ -13,12 +12,12 @@ abbrev pub noNumber : Number
 noNumber = record { good = false; value = 0 }
 
 abbrev pub noNumbers : Numbers
-noNumbers = record { good = false; values = replicate 6 0 }
+noNumbers = record { good = false; values = replicate fieldCount 0 }
 
--- a field that is needed is a number, another is empty
-unfoldable pub fieldRead : Bool → List ℕ → Number
-fieldRead needed f = cond (asNeeded needed f) (record { good = true; value = valueOf f }) noNumber
+-- the number of a field that is as it is asked for
+unfoldable pub fieldRead : Field → List ℕ → Number
+fieldRead k f = cond (fits k f) (record { good = true; value = numberIn k f }) noNumber
 
--- six fields, the first n of them numbers
-unfoldable pub fieldsRead : ℕ → List (List ℕ) → Numbers
-fieldsRead n fs = cond (eqb (length fs) 6 && filled n fs) (record { good = true; values = map valueOf fs }) noNumbers
+-- those of all, where each is as the form asks for it
+unfoldable pub fieldsRead : List Field → List (List ℕ) → Numbers
+fieldsRead ks fs = cond (hasFields ks fs) (record { good = true; values = numbersOf ks fs }) noNumbers

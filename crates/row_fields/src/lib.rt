@@ -1,9 +1,11 @@
 // The fields of a row as byte strings and as numbers. Document 01, "Reading, lending, printing".
-ghost use mathlib.Core.Bool.{true};
 ghost use mathlib.Core.Path.{_≡_};
 ghost use Rattle.spec_lists.specs.Lists.{sameList};
+ghost use Rattle.spec_text.specs.declared.Field.the-variants.{Needed};
 ghost use Rattle.row_fields.specs.FieldLaws.{toComma, fieldsAfter};
 ghost use Rattle.row_fields.specs.FieldReads.{fieldRead, fieldsRead};
+use spec_text::FIELDS;
+use spec_text::Field;
 
 // A field as a number: 0 where it has another form.
 struct Number {
@@ -11,10 +13,10 @@ struct Number {
     value: u32,
 }
 
-// The six fields after the verb as numbers: zeros where one has another form.
+// The fields after the verb as numbers: zeros where one has another form.
 pub struct Numbers {
     pub good: bool,
-    pub values: [u32; 6],
+    pub values: [u32; FIELDS],
 }
 
 const DIGIT_ZERO: u32 = 48;
@@ -48,7 +50,7 @@ pub fn first_comma(text: &[u8]) -> usize
 
 // A value past 32 bits is refused at its first digit too many, so that no step wraps.
 fn read_number(field: &[u8]) -> Number
-    ensures { λ r. ⌜ r ≡ fieldRead true (now (field .entry)) ⌝ }
+    ensures { λ r. ⌜ r ≡ fieldRead Needed (now (field .entry)) ⌝ }
 {
     let none = Number {
         good: false,
@@ -77,37 +79,47 @@ fn read_number(field: &[u8]) -> Number
     }
 }
 
-// A field that is not needed is empty.
-fn read_field(field: &[u8], needed: bool) -> Number
-    ensures { λ r. ⌜ r ≡ fieldRead needed (now (field .entry)) ⌝ }
+// An empty field has no number of its own: it counts as the one that its form gives, or as 0.
+fn read_field(field: &[u8], asked: Field) -> Number
+    ensures { λ r. ⌜ r ≡ fieldRead asked (now (field .entry)) ⌝ }
 {
-    if needed {
-        return read_number(field);
-    }
-    Number {
-        good: field.len() == 0,
-        value: 0,
+    match asked {
+        Field::Needed => read_number(field),
+        Field::MayBeEmpty(otherwise) => {
+            if field.len() == 0 {
+                return Number {
+                    good: true,
+                    value: otherwise,
+                };
+            }
+            read_number(field)
+        }
+        Field::Empty => Number {
+            good: field.len() == 0,
+            value: 0,
+        },
     }
 }
 
-// The text is six times a comma and a field.
-pub fn read_fields(text: &[u8], count: usize) -> Numbers
-    ensures { λ r. ⌜ r ≡ fieldsRead count (fieldsAfter (now (text .entry))) ⌝ }
+// The text is a comma and a field, as often as the form has fields.
+pub fn read_fields(text: &[u8], form: [Field; FIELDS]) -> Numbers
+    ensures { λ r. ⌜ r ≡ fieldsRead form (fieldsAfter (now (text .entry))) ⌝ }
 {
     let none = Numbers {
         good: false,
-        values: [0; 6],
+        values: [0; FIELDS],
     };
-    let mut values = [0u32; 6];
+    let mut values = [0u32; FIELDS];
     let mut at = 0;
-    for i in 0..6 {
+    for i in 0..FIELDS {
         if text.len() <= at {
             return none;
         }
         let from = at + 1;
         let size = first_comma(&text[from..]);
         let end = from + size;
-        let field = read_field(&text[from..end], i < count);
+        let asked = form[i];
+        let field = read_field(&text[from..end], asked);
         if !field.good {
             return none;
         }

@@ -1,16 +1,26 @@
--- Laws of printed rows: how long they are, and the records of a plan one by one. Assumes nothing.
+-- Laws of printed rows: how long they are. Assumes nothing.
 use mathlib.Core.Path.{_≡_, refl}
-use mathlib.Core.List.{List, _++_}
-use Prim.Native.Nat.{ℕ, zero, suc, _+_, _*_, _-_, _≤_, _<_}
+use mathlib.Core.List.{List, [], _∷_}
+use Prim.Native.Nat.{ℕ, _+_, _*_, _≤_}
 use native.Mathlib.Omega.{arith}
-use lib.ListN.{length, drop, getD, length-append}
-use lib.Seq.{getD-drop, drop-drop}
+use lib.ListN.{length, length-append}
+use Rattle.spec_lists.specs.Lists.{concatMap}
+use Rattle.spec_model.specs.declared.Name.{Name}
+use Rattle.spec_rules.specs.Slots.{Run}
 use Rattle.row_write.specs.Powers.{decimal-most}
 pub use Rattle.row_write.specs.BytesLaws.{Wrote, wrote, contract, wrote-then, written-none}
-use Rattle.spec_shelf.specs.Printed.{headerRow, plainRow, streamRow, slotRow, slotRows}
-use Rattle.spec_shelf.specs.Printed.{headerMost, plainMost, streamMost, slotRowMost}
+use Rattle.spec_shelf.specs.Bytes.{written}
+use Rattle.spec_shelf.specs.Printed.{nameField, headerRow, plainRow, streamRow, slotRowOf}
+use Rattle.spec_shelf.specs.Printed.{nameMost, headerMost, plainMost, streamMost, slotRowMost}
 
--- ---- how long rows are
+pub name-most : (n : Name) → length (nameField n) ≤ nameMost
+unfolding nameField
+name-most n = decimal-most (n .stream)
+
+-- a rule for `omega`: where a name has been printed, its field is no longer
+pub named-most : (out after : List ℕ) (at : ℕ) (n : Name) → after ≡ written out at (44 ∷ nameField n) → length (nameField n) ≤ nameMost
+named-most out after at n e = name-most n
+
 pub header-row-length : length headerRow ≡ headerMost
 header-row-length = refl
 
@@ -19,34 +29,16 @@ module _ (verb : List ℕ) (answer : ℕ) where
   unfolding plainRow
   plain-row-most = simp length-append (omega (arith, decimal-most answer))
 
-  pub stream-row-most : (stream : ℕ) → length (streamRow verb stream answer) ≤ length verb + streamMost
+  pub stream-row-most : (n : Name) → length (streamRow verb n answer) ≤ length verb + streamMost
   unfolding streamRow
-  stream-row-most stream = simp length-append (omega (arith, decimal-most stream, decimal-most answer))
+  stream-row-most n = simp length-append (omega (arith, name-most n, decimal-most answer))
 
-pub slot-row-most : (stream job start len : ℕ) → length (slotRow stream job start len) ≤ slotRowMost
-unfolding slotRow
-slot-row-most stream job start len =
-    simp length-append (omega (arith, decimal-most stream, decimal-most job, decimal-most start, decimal-most len))
+-- ---- records
+pub slot-row-most : (r : Run) → length (slotRowOf r) ≤ slotRowMost
+unfolding slotRowOf
+slot-row-most r =
+    simp length-append (omega (arith, name-most (r .name), decimal-most (r .job), decimal-most (r .start), decimal-most (r .length)))
 
-pub slot-rows-most : (n : ℕ) (ws : List ℕ) → length (slotRows n ws) ≤ slotRowMost * n
-unfolding slotRows
-slot-rows-most zero ws = omega arith
-slot-rows-most (suc n) ws =
-    let first = slot-row-most (getD ws 0 0) (getD ws 1 0) (getD ws 2 0) (getD ws 3 0) in
-    simp length-append (omega (arith, first, slot-rows-most n (drop 4 ws)))
-
--- ---- the loop over the records: those from a word on are left
-abbrev rowAt : List ℕ → ℕ → List ℕ
-rowAt plan word = slotRow (getD plan word 0) (getD plan (word + 1) 0) (getD plan (word + 2) 0) (getD plan (word + 3) 0)
-
-pub rows-next : (plan : List ℕ) (word left : ℕ) → 0 < left
-    → slotRows left (drop word plan) ≡ rowAt plan word ++ slotRows (left - 1) (drop (word + 4) plan)
-unfolding slotRows
-rows-next plan word zero h = absurd (omega arith)
-rows-next plan word (suc m) h =
-    let z : word + 0 ≡ word = omega arith in
-    let e : suc m - 1 ≡ m = omega arith in
-    rw (getD-drop word plan 0 0, z, getD-drop word plan 1 0, getD-drop word plan 2 0, getD-drop word plan 3 0, drop-drop 4 word plan, e)
-
-pub row-most : (plan : List ℕ) (word : ℕ) → length (rowAt plan word) ≤ slotRowMost
-row-most plan word = slot-row-most (getD plan word 0) (getD plan (word + 1) 0) (getD plan (word + 2) 0) (getD plan (word + 3) 0)
+pub slot-rows-most : (rs : List Run) → length (concatMap slotRowOf rs) ≤ slotRowMost * length rs
+slot-rows-most [] = omega arith
+slot-rows-most (r ∷ rs) = simp length-append (omega (arith, slot-row-most r, slot-rows-most rs))

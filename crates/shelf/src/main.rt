@@ -6,7 +6,8 @@ ghost use Prim.Native.Nat.{_≤_, _<_};
 ghost use lib.ListN.{length, take};
 ghost use Rattle.io.specs.Counts.{clamped};
 ghost use Rattle.spec_shelf.specs.Printed.{headerRow, written};
-ghost use Rattle.spec_shelf.specs.Room.{planWords, answerMost, Ready};
+ghost use Rattle.spec_rules.specs.Records.{planWords};
+ghost use Rattle.spec_shelf.specs.Room.{answerMost, Ready};
 ghost use Rattle.shelf_state.specs.Cutting.{firstShelf, lastRows};
 ghost use Rattle.shelf_write.specs.Flows.{Flowed};
 ghost use Rattle.shelf.specs.Runs.{ends, readsOn, mostBytes, Ran};
@@ -113,7 +114,7 @@ fn serve_all(s: Shelf, header: usize, input: &mut [u8], plan: &mut [u32], out: &
 fn main() {
     let mut input = [0u8; 65536];
     let mut out = [0u8; 131072];
-    let mut plan = [0u32; 4096];
+    let mut plan = [0u32; spec_model::PLAN_WORDS];
     let at = row_print::header_row(&mut out, 0);
     let header = shelf_write::put(&out, at);
     if header.well {

@@ -5,14 +5,13 @@ use Prim.Native.Nat.{ℕ, _≤_}
 use lib.ListN.{length}
 use Rattle.spec_lists.specs.Lists.{concatMap}
 use Rattle.spec_model.specs.declared.Table.{Table}
-use Rattle.spec_rules.specs.Calls.{mostRecords, planOf, advanced, Beacon, beacon}
+use Rattle.spec_rules.specs.Records.{mostRecords, planWords}
+use Rattle.spec_rules.specs.Calls.{planOf, advanced, Beacon, beacon}
 use Rattle.spec_rules.specs.WellFormed.{WellFormed}
 use Rattle.law_interval.specs.Plan.{plan-right}
 use Rattle.beacon_share.specs.declared.Shares.{Shares}
 use Rattle.call_beacon.specs.Moves.{Moves}
-use Rattle.spec_shelf.specs.Printed.{slotRows}
-use Rattle.spec_shelf.specs.Meaning.{slotRowOf}
-use Rattle.spec_shelf.specs.Room.{planWords}
+use Rattle.spec_shelf.specs.Printed.{slotRowOf, slotRows}
 use Rattle.law_rows.specs.Plans.{planned, rows-of-words}
 
 -- what a call gives that meets the contract of planning an interval

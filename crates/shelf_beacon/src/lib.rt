@@ -3,12 +3,13 @@ ghost use mathlib.Core.Path.{_≡_};
 ghost use Prim.Native.Nat.{_+_, _≤_};
 ghost use lib.ListN.{length};
 ghost use Rattle.spec_model.specs.Numbers.{noTableNumber};
+ghost use Rattle.spec_rules.specs.Records.{planWords};
 ghost use Rattle.call_beacon.specs.Moves.{Moves};
 ghost use Rattle.spec_shelf.specs.Commands.{beaconVerb};
 ghost use Rattle.spec_shelf.specs.declared.Command.the-variants.{Beacon};
 ghost use Rattle.spec_shelf.specs.Printed.{plainRow, written};
 ghost use Rattle.spec_shelf.specs.Meaning.{stateAfter, planAfter, rowsFor};
-ghost use Rattle.spec_shelf.specs.Room.{planWords, answerMost, stateOf, Ready};
+ghost use Rattle.spec_shelf.specs.Room.{answerMost, stateOf, Ready};
 use beacon_share::Shares;
 use spec_model::Table;
 
@@ -26,10 +27,7 @@ fn no_table(out: &mut [u8], at: usize) -> BeaconRows
         ⌜ (r .used ≡ 0) × ((r .at ≡ at + length bs) × (now (out .exit) ≡ written (now (out .entry)) at bs)) ⌝ }
 {
     let next = row_print::plain_row(out, at, b"beacon", call_answers::NO_TABLE);
-    let shares = Shares {
-        pieces: [0; 32],
-        extras: [0; 32],
-    };
+    let shares = beacon_share::no_shares();
     BeaconRows {
         at: next,
         used: 0,

@@ -3,7 +3,8 @@ ghost use mathlib.Core.Path.{_≡_};
 ghost use Prim.Native.Nat.{_+_, _≤_};
 ghost use lib.ListN.{length};
 ghost use Rattle.spec_shelf.specs.Printed.{written};
-ghost use Rattle.spec_shelf.specs.Room.{planWords, answerMost, Ready};
+ghost use Rattle.spec_rules.specs.Records.{planWords};
+ghost use Rattle.spec_shelf.specs.Room.{answerMost, Ready};
 ghost use Rattle.shelf_state.specs.Cutting.{lastRows, lastPlan};
 use shelf_state::Shelf;
 

@@ -4,7 +4,8 @@ ghost use mathlib.Core.Path.{_≡_};
 ghost use Prim.Native.Nat.{_+_, _≤_};
 ghost use lib.ListN.{length, take};
 ghost use Rattle.spec_shelf.specs.Printed.{written};
-ghost use Rattle.spec_shelf.specs.Room.{planWords, answerMost, stateOf, Ready};
+ghost use Rattle.spec_rules.specs.Records.{planWords};
+ghost use Rattle.spec_shelf.specs.Room.{answerMost, stateOf, Ready};
 ghost use Rattle.shelf_state.specs.Cutting.{commandIn};
 ghost use Rattle.shelf_state.specs.Whole.{chunkRows, chunkPlan, shelfAfter};
 ghost use Rattle.shelf_state.specs.Parts.{servedTo};
@@ -16,14 +17,11 @@ use spec_model::Table;
 use spec_shelf::Command;
 use spec_shelf::State;
 
-// The most bytes of the rows of one answer: a row of the call and 1,024 rows of records.
-pub const ANSWER_MOST: usize = 53248;
-
 fn command_in(line: Line) -> Command
     ensures { λ c. ⌜ c ≡ commandIn line ⌝ }
 {
     let len = line.len;
-    if len <= row_cut::ROW_MOST {
+    if len <= spec_text::ROW_MOST {
         let bytes = line.bytes;
         return row_command::command_of(&bytes[..len]);
     }
@@ -57,7 +55,7 @@ pub fn serve_rows(s: Shelf, chunk: &[u8], plan: &mut [u32], out: &mut [u8], at: 
     let mut table = state.table;
     let mut taken: usize = 0;
     let mut next = at;
-    let last = out.len() - ANSWER_MOST;
+    let last = out.len() - spec_shelf::ANSWER_MOST;
     while taken < chunk.len() && next <= last {
         let c = row_cut::cut_row(reader, &chunk[taken..]);
         let r = c.reader;
@@ -66,28 +64,28 @@ pub fn serve_rows(s: Shelf, chunk: &[u8], plan: &mut [u32], out: &mut [u8], at: 
         if c.ended {
             reader = row_cut::at_start();
             match command_in(r.line) {
-                Command::Open(units) => {
-                    let o = shelf_open::answer_open(units, out, next);
+                Command::Open(setting) => {
+                    let o = shelf_open::answer_open(setting, out, next);
                     next = o.at;
                     if o.succeeded {
                         ready = true;
-                        table = call_open::opened_table(units);
+                        table = call_open::opened_table(setting);
                     }
                 }
                 Command::Offer(q) => {
                     let p = shelf_offer::answer_offer(ready, table, q, out, next);
                     next = p.at;
                     let place = p.place;
-                    if place < 32 {
+                    if place < spec_model::PLACES {
                         let e = p.entry;
                         table.entries[place] = e;
                     }
                 }
-                Command::Withdraw(stream) => {
-                    let p = shelf_withdraw::answer_withdraw(ready, table, stream, out, next);
+                Command::Withdraw(name) => {
+                    let p = shelf_withdraw::answer_withdraw(ready, table, name, out, next);
                     next = p.at;
                     let place = p.place;
-                    if place < 32 {
+                    if place < spec_model::PLACES {
                         let e = p.entry;
                         table.entries[place] = e;
                     }

@@ -22,8 +22,7 @@ pub fn first_shelf() -> Shelf
     ensures is { λ r. ⌜ r ≡ firstShelf ⌝ }
     ensures formed { λ r. ⌜ Ready (r .state) ⌝ }
 {
-    let none = call_open::open(0);
-    let table = none.table;
+    let table = call_open::no_table();
     let reader = row_cut::at_start();
     let state = State {
         ready: false,

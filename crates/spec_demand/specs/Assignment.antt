@@ -2,17 +2,18 @@
 use mathlib.Core.Bool.{Bool, false}
 use mathlib.Core.Option.{Option, none, some}
 use Prim.Native.Nat.{ℕ}
-use lib.Dec.{eqb}
 use Rattle.spec_lists.specs.Lists.{one-if, span}
+use Rattle.spec_model.specs.Names.{same}
+use Rattle.spec_model.specs.declared.Name.{Name}
 
--- each slot of each interval to come, counted from 0, goes to at most one stream
+-- each slot of each interval to come, counted from 0, goes to at most one request
 abbrev pub Assignment : Type 0
-Assignment = ℕ → ℕ → Option ℕ
+Assignment = ℕ → ℕ → Option Name
 
-abbrev pub isTo : ℕ → Option ℕ → Bool
-isTo s none = false
-isTo s (some x) = eqb x s
+abbrev pub isTo : Name → Option Name → Bool
+isTo n none = false
+isTo n (some x) = same x n
 
--- the slots from x up to y of coming interval k that go to stream s
-unfoldable pub assigned : Assignment → (s k x y : ℕ) → ℕ
-assigned a s k x y = span (λ z. one-if (isTo s (a k z))) x y
+-- the slots from x up to y of coming interval k that go to request n
+unfoldable pub assigned : Assignment → Name → (k x y : ℕ) → ℕ
+assigned a n k x y = span (λ z. one-if (isTo n (a k z))) x y

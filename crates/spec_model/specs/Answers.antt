@@ -5,6 +5,7 @@ use mathlib.Core.Bool.{cond}
 use Rattle.spec_model.specs.Requests.{refusal, fieldChecks}
 use Rattle.spec_model.specs.Entries.{isKind}
 use Rattle.spec_model.specs.declared.Entry.{Entry}
+use Rattle.spec_model.specs.declared.Frame.{Frame}
 use Rattle.spec_model.specs.declared.Request.{Request}
 use Rattle.spec_model.specs.declared.OfferAnswer.{OfferAnswer}
 use Rattle.spec_model.specs.declared.OfferAnswer.the-variants.{Accepted, StreamOutside, StreamHeld, KindUnknown}
@@ -23,14 +24,14 @@ offerNumber TableFull = 16
 offerNumber NoTime = 17
 
 -- refusals 12 to 15 of an offer, or 0
-unfoldable pub fieldsAnswer : ℕ → Request → ℕ
-fieldsAnswer B q = refusal (fieldChecks B q)
+unfoldable pub fieldsAnswer : Frame → Request → ℕ
+fieldsAnswer F q = refusal (fieldChecks F q)
 
 -- the fields that were offered
 unfoldable pub requestOf : Entry → Request
 requestOf e =
     record {
-      stream = e .stream;
+      name = e .name;
       kind = e .kind;
       period = cond (isKind 1 e) (e .parts) (e .period .0);
       min = e .min .0;

@@ -2,13 +2,15 @@
 use Prim.Native.Nat.{ℕ}
 use mathlib.Core.Bool.{Bool, cond, not, _||_}
 use lib.Dec.{eqb}
+use Rattle.spec_model.specs.Names.{same, nobody, isNobody}
+use Rattle.spec_model.specs.declared.Name.{Name}
 use Rattle.spec_model.specs.declared.Entry.{Entry}
 use Rattle.spec_model.specs.declared.Request.{Request}
 
 -- a free place is all zero
 abbrev pub freeEntry : Entry
 freeEntry = record {
-  stream = 0;
+  name = nobody;
   kind = 0;
   parts = 0;
   period = record { 0 = 0 };
@@ -22,10 +24,10 @@ freeEntry = record {
 }
 
 abbrev pub isHeld : Entry → Bool
-isHeld e = not (eqb (e .stream) 0)
+isHeld e = not (isNobody (e .name))
 
-abbrev pub isStream : ℕ → Entry → Bool
-isStream s e = eqb (e .stream) s
+abbrev pub isNamed : Name → Entry → Bool
+isNamed n e = same (e .name) n
 
 abbrev pub isKind : ℕ → Entry → Bool
 isKind k e = eqb (e .kind) k
@@ -34,13 +36,17 @@ isKind k e = eqb (e .kind) k
 abbrev pub isPiece : Entry → Bool
 isPiece e = isKind 2 e || isKind 3 e
 
+-- what each of its periods asks: the minimum, of a transfer its amount
+abbrev pub asks : Entry → ℕ
+asks e = e .min .0
+
 -- an entry on acceptance: owed = min, given = 0, intervals left = period; for kind 1 these are 0.
 -- The period field is m for kind 1 (`parts`) and a count of intervals for the others (`period`)
 unfoldable pub entryOf : Request → Entry
 entryOf q =
     let fraction = eqb (q .kind) 1 in
     record {
-      stream = q .stream;
+      name = q .name;
       kind = q .kind;
       parts = cond fraction (q .period) 0;
       period = record { 0 = cond fraction 0 (q .period) };

@@ -1,5 +1,8 @@
+pub mod Frames
+pub mod Names
 pub mod Requests
 pub mod Entries
 pub mod Answers
 pub mod Numbers
-pub mod Six
+pub mod ByNumbers
+pub mod Tables

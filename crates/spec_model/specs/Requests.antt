@@ -5,6 +5,8 @@ use mathlib.Core.Bool.{Bool, true, cond, not, _&&_}
 use mathlib.Core.List.{List, [], _∷_}
 use lib.Dec.{leb, eqb}
 use Rattle.spec_lists.specs.Lists.{within}
+use Rattle.spec_model.specs.Frames.{slotsIn}
+use Rattle.spec_model.specs.declared.Frame.{Frame}
 use Rattle.spec_model.specs.declared.Request.{Request}
 
 -- a row of the table of refusals: its number, and whether its condition holds
@@ -21,9 +23,6 @@ refusal [] = 0
 refusal (c ∷ cs) = let r = refusal cs in cond (c .applies) (c .number) r
 
 -- ---- the least and largest value of each field
-abbrev pub streamInRange : ℕ → Bool
-streamInRange s = within 1 65535 s
-
 -- lowest ≤ min ≤ max ≤ largest
 abbrev pub inOrder : (lowest least most largest : ℕ) → Bool
 inOrder lowest least most largest = leb lowest least && (leb least most && leb most largest)
@@ -73,9 +72,9 @@ transferChecks deadline amount reserved life =
     rangeChecks (transferPeriod deadline) (transferAmounts amount reserved) (transferLife deadline life)
 
 -- by kind; another kind has no range
-unfoldable pub fieldChecks : ℕ → Request → List Check
-fieldChecks B q =
-    cond (eqb (q .kind) 1) (fractionChecks B (q .period) (q .min) (q .max) (q .life))
-    (cond (eqb (q .kind) 2) (wholeChecks B (q .period) (q .min) (q .max) (q .life))
+unfoldable pub fieldChecks : Frame → Request → List Check
+fieldChecks F q =
+    cond (eqb (q .kind) 1) (fractionChecks (slotsIn F) (q .period) (q .min) (q .max) (q .life))
+    (cond (eqb (q .kind) 2) (wholeChecks (slotsIn F) (q .period) (q .min) (q .max) (q .life))
     (cond (eqb (q .kind) 3) (transferChecks (q .period) (q .min) (q .max) (q .life))
     (check 12 true ∷ [])))

@@ -1,8 +1,11 @@
 // Units, an offer's fields as they came, and the table that holds requests. Document 01, "Units and one request".
 ghost use mathlib.Core.Path.{_≡_};
+ghost use Prim.Native.Nat.{_≤_};
 ghost use Rattle.spec_model.specs.Answers.{offerNumber};
 ghost use Rattle.spec_model.specs.Entries.{freeEntry};
-ghost use Rattle.spec_model.specs.Requests.{refusal, streamInRange, inOrder, rangeChecks};
+ghost use Rattle.spec_model.specs.Frames.{roomIn};
+ghost use Rattle.spec_model.specs.Names.{same, isNobody, nameInRange, nameRank, nameTop};
+ghost use Rattle.spec_model.specs.Requests.{refusal, inOrder, rangeChecks};
 
 // Counts of slots and counts of beacon intervals are different units: no sum takes one of each.
 #[repr(C)]
@@ -11,6 +14,78 @@ pub struct Slots(pub u32);
 #[repr(C)]
 pub struct Intervals(pub u32);
 
+// ---- sizes, each by its own name
+// The places of a table, and what stands for none of them.
+pub const PLACES: usize = 32;
+
+pub const NO_PLACE: usize = 32;
+
+// The slots of a time unit.
+pub const UNIT_SLOTS: u32 = 1024;
+
+// The words of a record, the most records of a plan, and the words of both.
+pub const RECORD_WORDS: usize = 4;
+
+pub const MOST_RECORDS: usize = 1024;
+
+pub const PLAN_WORDS: usize = RECORD_WORDS * MOST_RECORDS;
+
+// ---- what an opening is told, any numbers
+pub struct Setting {
+    pub units: u32,
+}
+
+// ---- what an interval is: handed on whole, and read by the names of specs/Frames.antt
+#[repr(C)]
+pub struct Frame {
+    pub slots: Slots,
+}
+
+pub fn room_in(f: Frame) -> Slots
+    ensures { λ r. ⌜ r .0 ≡ roomIn f ⌝ }
+{
+    f.slots
+}
+
+// ---- the name of a request, told apart and ordered by the functions here alone
+#[repr(C)]
+pub struct Name {
+    pub stream: u32,
+}
+
+impl Name {
+    pub const STREAM_LEAST: u32 = 1;
+
+    pub const STREAM_LARGEST: u32 = 65535;
+
+    pub fn in_range(self) -> bool
+        ensures { λ r. ⌜ r ≡ nameInRange self ⌝ }
+    {
+        base_numbers::is_within(Self::STREAM_LEAST, Self::STREAM_LARGEST, self.stream)
+    }
+}
+
+pub fn same(a: Name, b: Name) -> bool
+    ensures { λ r. ⌜ r ≡ same a b ⌝ }
+{
+    a.stream == b.stream
+}
+
+// The name of a free place.
+pub fn is_nobody(n: Name) -> bool
+    ensures { λ r. ⌜ r ≡ isNobody n ⌝ }
+{
+    n.stream == 0
+}
+
+// The lower of two names in range has the lower number; of any name it leaves room in 64 bits.
+pub fn name_rank(name: Name) -> u64
+    ensures { λ r. ⌜ (r ≡ nameRank name) × (r ≤ nameTop) ⌝ }
+{
+    name.stream as u64
+}
+
+// ---- answers
 // What an offer answers.
 pub enum OfferAnswer {
     Accepted,
@@ -42,24 +117,12 @@ pub enum BeaconAnswer {
 
 // An offer's six fields as they came: any numbers.
 pub struct Request {
-    pub stream: u32,
+    pub name: Name,
     pub kind: u32,
     pub period: u32,
     pub min: u32,
     pub max: u32,
     pub life: u32,
-}
-
-impl Request {
-    pub const STREAM_LEAST: u32 = 1;
-
-    pub const STREAM_LARGEST: u32 = 65535;
-
-    pub fn stream_in_range(self) -> bool
-        ensures { λ r. ⌜ r ≡ streamInRange (self .stream) ⌝ }
-    {
-        base_numbers::is_within(Self::STREAM_LEAST, Self::STREAM_LARGEST, self.stream)
-    }
 }
 
 // ---- what every kind checks
@@ -100,7 +163,7 @@ pub fn first_outside(period: bool, amounts: bool, life: bool) -> OfferAnswer
 // period, and the intervals left to its deadline.
 #[repr(C)]
 pub struct Entry {
-    pub stream: u32,
+    pub name: Name,
     pub kind: u32,
     pub parts: u32,
     pub period: Intervals,
@@ -113,10 +176,10 @@ pub struct Entry {
     pub left: Intervals,
 }
 
-// The planner's whole state: the slots of an interval, and 32 places.
+// The planner's whole state: what an interval is, and 32 places.
 #[repr(C)]
 pub struct Table {
-    pub interval: Slots,
+    pub frame: Frame,
     pub entries: [Entry; 32],
 }
 
@@ -124,7 +187,7 @@ pub fn free_entry() -> Entry
     ensures { λ r. ⌜ r ≡ freeEntry ⌝ }
 {
     Entry {
-        stream: 0,
+        name: Name { stream: 0 },
         kind: 0,
         parts: 0,
         period: Intervals(0),

@@ -4,7 +4,8 @@ use mathlib.Core.Bool.{Bool, true, false, cond, _&&_, _||_}
 use mathlib.Core.List.{List, [], map}
 use lib.Dec.{ltb, eqb}
 use Rattle.spec_lists.specs.Lists.{keep, mostOf, anyOf}
-use Rattle.spec_model.specs.Entries.{freeEntry, isHeld, isKind, isPiece}
+use Rattle.spec_model.specs.Entries.{freeEntry, isHeld, isKind, isPiece, asks}
+use Rattle.spec_model.specs.declared.Frame.{Frame}
 use Rattle.spec_model.specs.declared.Entry.{Entry}
 use Rattle.spec_rules.specs.Share.{Grant, slotsFor, overfull, stepB}
 
@@ -12,7 +13,7 @@ use Rattle.spec_rules.specs.Share.{Grant, slotsFor, overfull, stepB}
 abbrev pub standing : Entry → (lives owed given left : ℕ) → Entry
 standing e lives owed given left =
     record {
-      stream = e .stream;
+      name = e .name;
       kind = e .kind;
       parts = e .parts;
       period = e .period;
@@ -32,9 +33,9 @@ passed b c e =
     let for-pieces : ℕ → ℕ = cond (isKind 1 e) 0 in
     standing e (e .«life_left» .0 - 1) (for-pieces (e .owed .0 - b)) (for-pieces (e .given .0 + b + c)) (for-pieces (e .left .0 - 1))
 
--- the next period begins: owed = min, given = 0, intervals left = period
+-- the next period begins: owed is what it asks, given = 0, intervals left = period
 unfoldable pub renewed : Entry → Entry
-renewed e = standing e (e .«life_left» .0) (e .min .0) 0 (e .period .0)
+renewed e = standing e (e .«life_left» .0) (asks e) 0 (e .period .0)
 
 -- an entry with life 0 leaves; a kind 2 entry with 0 intervals left begins its next period
 unfoldable pub settled : Entry → Entry
@@ -42,20 +43,20 @@ settled e = cond (eqb (e .«life_left» .0) 0) freeEntry (cond (isKind 2 e && eq
 
 -- a free place stays free, since its life is 0
 unfoldable pub stepF : (bs cs : List Grant) → List Entry → List Entry
-stepF bs cs es = map (λ (e : Entry). settled (passed (slotsFor (e .stream) bs) (slotsFor (e .stream) cs) e)) es
+stepF bs cs es = map (λ (e : Entry). settled (passed (slotsFor (e .name) bs) (slotsFor (e .name) cs) e)) es
 
 -- Looking ahead, steps A, B and F in turn: a kind 2 or 3 request ends the interval of its deadline with owed above 0
 abbrev pub misses : List Grant → Entry → Bool
-misses bs e = isPiece e && (eqb (e .left .0) 1 && ltb (slotsFor (e .stream) bs) (e .owed .0))
+misses bs e = isPiece e && (eqb (e .left .0) 1 && ltb (slotsFor (e .name) bs) (e .owed .0))
 
 -- in none of n intervals is E negative, or a deadline missed
-unfoldable pub goesWell : (n B : ℕ) → List Entry → Bool
-goesWell zero B es = true
-goesWell (suc n) B es =
-    let bs = stepB B es in
-    let r = goesWell n B (keep isHeld (stepF bs [] es)) in
-    cond (overfull B es || anyOf (misses bs) es) false r
+unfoldable pub goesWell : (n : ℕ) → Frame → List Entry → Bool
+goesWell zero F es = true
+goesWell (suc n) F es =
+    let bs = stepB F es in
+    let r = goesWell n F (keep isHeld (stepF bs [] es)) in
+    cond (overfull F es || anyOf (misses bs) es) false r
 
 -- until every life is used up
-unfoldable pub fitsAhead : ℕ → List Entry → Bool
-fitsAhead B es = goesWell (mostOf (λ (e : Entry). e .«life_left» .0) es) B es
+unfoldable pub fitsAhead : Frame → List Entry → Bool
+fitsAhead F es = goesWell (mostOf (λ (e : Entry). e .«life_left» .0) es) F es

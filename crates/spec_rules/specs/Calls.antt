@@ -4,50 +4,33 @@ use Prim.Native.Nat.{ℕ, _*_}
 use mathlib.Core.Bool.{Bool, cond, not}
 use mathlib.Core.List.{List, [], _∷_, _++_, map}
 use lib.Dec.{ltb, leb, eqb}
-use lib.ListN.{length, drop, replicate}
-use Rattle.spec_lists.specs.Lists.{within, keep, anyOf}
-use Rattle.spec_model.specs.Requests.{check, refusal, streamInRange, fieldChecks}
-use Rattle.spec_model.specs.Entries.{freeEntry, isHeld, isStream, entryOf}
+use lib.ListN.{length, drop}
+use Rattle.spec_lists.specs.Lists.{anyOf}
+use Rattle.spec_model.specs.Names.{nameInRange}
+use Rattle.spec_model.specs.Requests.{check, refusal, fieldChecks}
+use Rattle.spec_model.specs.Entries.{freeEntry, isHeld, isNamed, entryOf}
+use Rattle.spec_model.specs.declared.Name.{Name}
 use Rattle.spec_model.specs.declared.Entry.{Entry}
 use Rattle.spec_model.specs.declared.Request.{Request}
 use Rattle.spec_model.specs.declared.Table.{Table}
 use Rattle.spec_rules.specs.Share.{stepB, stepC}
 use Rattle.spec_rules.specs.Slots.{Run, stepE}
 use Rattle.spec_rules.specs.Ahead.{stepF, fitsAhead}
+use Rattle.spec_model.specs.Tables.{mostHeld, heldOf, withEntries}
+use Rattle.spec_rules.specs.Records.{recordWords, planWords, wordsOf}
 
--- the places of a table; the words of a record; the most records of a plan
-abbrev pub places : ℕ
-places = 32
-
-abbrev pub recordWords : ℕ
-recordWords = 4
-
-abbrev pub mostRecords : ℕ
-mostRecords = 1024
-
--- opening, with u time units of 1,024 slots
-unfoldable pub openAnswer : ℕ → ℕ
-openAnswer u = refusal (check 1 (not (within 1 1000 u)) ∷ [])
-
-unfoldable pub opened : ℕ → Table
-opened u = record { interval = record { 0 = 1024 * u }; entries = replicate places freeEntry }
-
--- what a table holds
-abbrev pub heldOf : Table → List Entry
-heldOf t = keep isHeld (t .entries)
-
-abbrev pub holds : Table → ℕ → Bool
-holds t s = anyOf (isStream s) (heldOf t)
+abbrev pub holds : Table → Name → Bool
+holds t n = anyOf (isNamed n) (heldOf t)
 
 -- an offer's answer
 unfoldable pub offerAnswer : Table → Request → ℕ
 offerAnswer t q =
     refusal
-    (check 10 (not (streamInRange (q .stream)))
-    ∷ check 11 (holds t (q .stream))
-    ∷ (fieldChecks (t .interval .0) q
-    ++ (check 16 (leb places (length (heldOf t)))
-    ∷ check 17 (not (fitsAhead (t .interval .0) (entryOf q ∷ heldOf t)))
+    (check 10 (not (nameInRange (q .name)))
+    ∷ check 11 (holds t (q .name))
+    ∷ (fieldChecks (t .frame) q
+    ++ (check 16 (leb mostHeld (length (heldOf t)))
+    ∷ check 17 (not (fitsAhead (t .frame) (entryOf q ∷ heldOf t)))
     ∷ [])))
 
 -- the entry goes to the first free place
@@ -57,31 +40,27 @@ placed e (f ∷ fs) = let r = placed e fs in cond (isHeld f) (f ∷ r) (e ∷ fs
 
 unfoldable pub offered : Table → Request → Table
 offered t q =
-    cond (eqb (offerAnswer t q) 0) (record { interval = t .interval; entries = placed (entryOf q) (t .entries) }) t
+    cond (eqb (offerAnswer t q) 0) (withEntries t (placed (entryOf q) (t .entries))) t
 
 -- a withdrawal's and an enquiry's
-unfoldable pub heldAnswer : Table → ℕ → ℕ
-heldAnswer t s = refusal (check 20 (not (holds t s)) ∷ [])
+unfoldable pub heldAnswer : Table → Name → ℕ
+heldAnswer t n = refusal (check 20 (not (holds t n)) ∷ [])
 
 -- the place becomes free
-unfoldable pub withdrawn : Table → ℕ → Table
-withdrawn t s =
-    let freed = map (λ (e : Entry). cond (isStream s e) freeEntry e) (t .entries) in
-    cond (holds t s) (record { interval = t .interval; entries = freed }) t
+abbrev pub freed : Name → List Entry → List Entry
+freed n es = map (λ (e : Entry). cond (isNamed n e) freeEntry e) es
 
--- the words of a plan
-unfoldable pub wordsOf : List Run → List ℕ
-wordsOf [] = []
-wordsOf (r ∷ rs) = r .stream ∷ r .job ∷ r .start ∷ r .length ∷ wordsOf rs
+unfoldable pub withdrawn : Table → Name → Table
+withdrawn t n = cond (holds t n) (withEntries t (freed n (t .entries))) t
 
+-- the plan, and the table after the interval
 unfoldable pub planOf : Table → List Run
-planOf t = stepE (t .interval .0) (heldOf t)
+planOf t = stepE (t .frame) (heldOf t)
 
 unfoldable pub advanced : Table → Table
 advanced t =
-    let B = t .interval .0 in
     let es = heldOf t in
-    record { interval = t .interval; entries = stepF (stepB B es) (stepC B es) (t .entries) }
+    withEntries t (stepF (stepB (t .frame) es) (stepC (t .frame) es) (t .entries))
 
 -- the answer, the record count, the words lent and the table after it
 pub record Beacon : Type 0 where
@@ -100,4 +79,4 @@ plannedBeacon t ws rs =
     record { answer = 0; count = length rs; words = wordsOf rs ++ drop (recordWords * length rs) ws; table = advanced t }
 
 unfoldable pub beacon : Table → List ℕ → Beacon
-beacon t ws = cond (ltb (length ws) (recordWords * mostRecords)) (refusedBeacon t ws) (plannedBeacon t ws (planOf t))
+beacon t ws = cond (ltb (length ws) planWords) (refusedBeacon t ws) (plannedBeacon t ws (planOf t))

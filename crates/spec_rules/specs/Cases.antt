@@ -8,15 +8,19 @@ use lib.Dec.{eqb}
 use lib.ListN.{take, replicate}
 use Rattle.spec_lists.specs.Lists.{sameList}
 use Rattle.spec_model.specs.Requests.{refusal, fieldChecks}
-use Rattle.spec_model.specs.Six.{request}
+use Rattle.spec_model.specs.Frames.{roomIn}
+use Rattle.spec_model.specs.Names.{same, lower, nameInRange}
+use Rattle.spec_model.specs.ByNumbers.{stream, setting, request}
 use Rattle.spec_model.specs.Entries.{entryOf}
 use Rattle.spec_model.specs.declared.Request.{Request}
 use Rattle.spec_model.specs.declared.Table.{Table}
-use Rattle.spec_rules.specs.Share.{Grant, load, slotsFor, order, take-turns, stepB, remains, weight, extra, stepC}
+use Rattle.spec_rules.specs.Share.{Grant, load, slotsFor, order, take-turns, stepB, remains, weight, extra, shareAmong, everyone, stepC}
 use Rattle.spec_rules.specs.Slots.{jobsFrom, tieOrder, jobs, choose, slotsFrom, stepD, prepend, runsFrom, stepE}
 use Rattle.spec_rules.specs.Ahead.{passed, renewed, settled, stepF, goesWell, fitsAhead}
-use Rattle.spec_rules.specs.Calls.{openAnswer, opened, heldOf, offerAnswer, placed, offered, heldAnswer, withdrawn}
-use Rattle.spec_rules.specs.Calls.{wordsOf, planOf, advanced, Beacon, beacon}
+use Rattle.spec_model.specs.Tables.{heldOf}
+use Rattle.spec_rules.specs.Settings.{openAnswer, frameOf, opened}
+use Rattle.spec_rules.specs.Records.{recordWords, planWords, wordsOfRun, recordAt, wordsOf, recordsOf}
+use Rattle.spec_rules.specs.Calls.{offerAnswer, placed, offered, heldAnswer, withdrawn, planOf, advanced, Beacon, beacon}
 use Rattle.spec_rules.specs.Reading.{startsOf, rises, before, windowAnswer, windowPart}
 
 -- a call, or a look at the figures of the next step C: L, W, then each request's stream and extra
@@ -45,27 +49,28 @@ on s t = record { table = t; words = s .words; count = s .count }
 
 abbrev numbers : List Grant → List ℕ
 numbers [] = []
-numbers (g ∷ gs) = g .stream ∷ g .slots ∷ numbers gs
+numbers (g ∷ gs) = g .name .stream ∷ g .slots ∷ numbers gs
 
 abbrev afterTick : Beacon → Reply
 afterTick b =
     record {
       answer = b .answer;
-      shown = take (4 * b .count) (b .words);
+      shown = take (recordWords * b .count) (b .words);
       next = record { table = b .table; words = b .words; count = b .count };
     }
 
 abbrev pub reply : State → Ask → Reply
-reply s (Open u) = record { answer = openAnswer u; shown = []; next = on s (opened u) }
+reply s (Open u) = record { answer = openAnswer (setting u); shown = []; next = on s (opened (setting u)) }
 reply s (Offer i k p a b l) =
     let q = request i k p a b l in
     record { answer = offerAnswer (s .table) q; shown = []; next = on s (offered (s .table) q) }
-reply s (Withdraw i) = record { answer = heldAnswer (s .table) i; shown = []; next = on s (withdrawn (s .table) i) }
+reply s (Withdraw i) =
+    record { answer = heldAnswer (s .table) (stream i); shown = []; next = on s (withdrawn (s .table) (stream i)) }
 reply s Tick = afterTick (beacon (s .table) (s .words))
 reply s Figures =
-    let B = s .table .interval .0 in
+    let F = s .table .frame in
     let es = heldOf (s .table) in
-    record { answer = 0; shown = remains B es ∷ weight (stepB B es) es ∷ numbers (stepC B es); next = s }
+    record { answer = 0; shown = remains F es ∷ weight everyone (stepB F es) es ∷ numbers (stepC F es); next = s }
 reply s (Window f u) =
     record { answer = windowAnswer (s .words) (s .count) f u; shown = windowPart (s .words) (s .count) f u; next = s }
 
@@ -165,13 +170,13 @@ abbrev pub cases : List Line
 cases = case1 ++ cases23 ++ case4 ++ case5 ++ case6 ++ case7 ++ case8 ++ case9 ++ tiesOfKind1 ++ kind2First
 
 abbrev pub start : State
-start = record { table = opened 1; words = replicate 4096 0; count = 0 }
+start = record { table = opened (setting 1); words = replicate planWords 0; count = 0 }
 
 pub cases-right : plays start cases ≡ true
-unfolding refusal fieldChecks entryOf
-    load slotsFor order take-turns stepB remains weight extra stepC
+unfolding refusal fieldChecks entryOf roomIn same lower nameInRange
+    load slotsFor order take-turns stepB remains weight extra shareAmong stepC
     jobsFrom tieOrder jobs choose slotsFrom stepD prepend runsFrom stepE
     passed renewed settled stepF goesWell fitsAhead
-    openAnswer opened offerAnswer placed offered heldAnswer withdrawn wordsOf planOf advanced beacon
+    openAnswer frameOf opened offerAnswer placed offered heldAnswer withdrawn wordsOfRun wordsOf recordAt recordsOf planOf advanced beacon
     startsOf rises before windowAnswer windowPart
 cases-right = refl

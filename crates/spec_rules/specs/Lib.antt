@@ -1,8 +1,9 @@
-pub mod Tables
 pub mod Share
 pub mod Slots
 pub mod Ahead
+pub mod Settings
+pub mod Records
 pub mod Calls
-pub mod Reading
 pub mod WellFormed
+pub mod Reading
 pub mod Cases

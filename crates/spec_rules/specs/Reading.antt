@@ -1,30 +1,32 @@
 -- Reading: an enquiry's entry, and the window over a plan with its answer word and the part that it hands back. Document 01,
 -- "Reading, lending, printing". ws are the plan's words, n is the record count. Assumes nothing.
-use Prim.Native.Nat.{ℕ, zero, suc, _*_, _-_}
+use Prim.Native.Nat.{ℕ, suc, _*_, _-_}
 use mathlib.Core.Bool.{Bool, true, cond, not, _&&_}
-use mathlib.Core.List.{List, [], _∷_}
+use mathlib.Core.List.{List, [], _∷_, map}
 use lib.Dec.{ltb, eqb}
-use lib.ListN.{length, take, drop, getD}
+use lib.ListN.{length, take, drop}
 use Rattle.spec_model.specs.Requests.{check, refusal}
-use Rattle.spec_model.specs.Entries.{freeEntry, isStream}
+use Rattle.spec_model.specs.Entries.{freeEntry, isNamed}
+use Rattle.spec_model.specs.declared.Name.{Name}
 use Rattle.spec_model.specs.declared.Entry.{Entry}
 use Rattle.spec_model.specs.declared.Table.{Table}
-use Rattle.spec_rules.specs.Calls.{recordWords, heldOf}
+use Rattle.spec_rules.specs.Slots.{Run}
+use Rattle.spec_model.specs.Tables.{heldOf}
+use Rattle.spec_rules.specs.Records.{recordWords, recordsOf}
 
 -- ---- enquiry
 -- the whole entry, or zeros
-unfoldable pub entryFor : ℕ → List Entry → Entry
-entryFor s [] = freeEntry
-entryFor s (e ∷ es) = let r = entryFor s es in cond (isStream s e) e r
+unfoldable pub entryFor : Name → List Entry → Entry
+entryFor n [] = freeEntry
+entryFor n (e ∷ es) = let r = entryFor n es in cond (isNamed n e) e r
 
-abbrev pub enquired : Table → ℕ → Entry
-enquired t s = entryFor s (heldOf t)
+abbrev pub enquired : Table → Name → Entry
+enquired t n = entryFor n (heldOf t)
 
 -- ---- window
--- the starts of the first n records: the third word of each
+-- the starts of the first n records
 unfoldable pub startsOf : ℕ → List ℕ → List ℕ
-startsOf zero ws = []
-startsOf (suc n) ws = getD ws 2 0 ∷ startsOf n (drop recordWords ws)
+startsOf n ws = map (λ (r : Run). r .start) (recordsOf n ws)
 
 -- they strictly rise
 unfoldable pub rises : List ℕ → Bool

@@ -6,15 +6,15 @@ use mathlib.Core.List.{List, [], _∷_, _++_, map}
 use lib.Dec.{eqb}
 use Rattle.spec_lists.specs.Lists.{concatMap}
 use Rattle.spec_model.specs.declared.Table.{Table}
-use Rattle.spec_rules.specs.Slots.{Run}
-use Rattle.spec_rules.specs.Calls.{openAnswer, opened, offerAnswer, offered, heldAnswer, withdrawn, planOf, advanced, beacon}
+use Rattle.spec_rules.specs.Settings.{openAnswer, opened}
+use Rattle.spec_rules.specs.Calls.{offerAnswer, offered, heldAnswer, withdrawn, planOf, advanced, beacon}
 use Rattle.spec_model.specs.Numbers.{otherFormNumber, noTableNumber}
-use Rattle.spec_rules.specs.Tables.{noTable}
+use Rattle.spec_model.specs.Tables.{noTable}
 use Rattle.spec_text.specs.Rows.{rowsOf}
 use Rattle.spec_shelf.specs.Commands.{openVerb, offerVerb, withdrawVerb, beaconVerb, commandOf}
 use Rattle.spec_shelf.specs.declared.Command.{Command}
 use Rattle.spec_shelf.specs.declared.Command.the-variants.{Open, Offer, Withdraw, Beacon, OtherForm}
-use Rattle.spec_shelf.specs.Printed.{headerRow, plainRow, streamRow, slotRow}
+use Rattle.spec_shelf.specs.Printed.{headerRow, plainRow, streamRow, slotRowOf}
 use Rattle.spec_shelf.specs.declared.State.{State}
 
 -- before a successful `open` there is no table
@@ -31,7 +31,7 @@ answerWith s a = cond (s .ready) a noTableNumber
 -- ---- the state after a row
 -- a later `open` replaces the table if it succeeds
 unfoldable pub stateAfter : State → Command → State
-stateAfter s (Open u) = cond (eqb (openAnswer u) 0) (withTable (opened u)) s
+stateAfter s (Open o) = cond (eqb (openAnswer o) 0) (withTable (opened o)) s
 stateAfter s (Offer q) = cond (s .ready) (withTable (offered (s .table) q)) s
 stateAfter s (Withdraw n) = cond (s .ready) (withTable (withdrawn (s .table) n)) s
 stateAfter s Beacon = cond (s .ready) (withTable (advanced (s .table))) s
@@ -39,7 +39,7 @@ stateAfter s OtherForm = s
 
 -- the plan's memory after it
 unfoldable pub planAfter : State → Command → List ℕ → List ℕ
-planAfter s (Open u) ws = ws
+planAfter s (Open o) ws = ws
 planAfter s (Offer q) ws = ws
 planAfter s (Withdraw n) ws = ws
 planAfter s Beacon ws = cond (s .ready) (beacon (s .table) ws .words) ws
@@ -49,15 +49,12 @@ planAfter s OtherForm ws = ws
 abbrev pub rowVerb : List ℕ
 rowVerb = 114 ∷ 111 ∷ 119 ∷ []
 
-abbrev pub slotRowOf : Run → List ℕ
-slotRowOf r = slotRow (r .stream) (r .job) (r .start) (r .length)
-
 abbrev pub planRows : State → List ℕ
 planRows s = cond (s .ready) (concatMap slotRowOf (planOf (s .table))) []
 
 unfoldable pub rowsFor : State → Command → List ℕ
-rowsFor s (Open u) = plainRow openVerb (openAnswer u)
-rowsFor s (Offer q) = streamRow offerVerb (q .stream) (answerWith s (offerAnswer (s .table) q))
+rowsFor s (Open o) = plainRow openVerb (openAnswer o)
+rowsFor s (Offer q) = streamRow offerVerb (q .name) (answerWith s (offerAnswer (s .table) q))
 rowsFor s (Withdraw n) = streamRow withdrawVerb n (answerWith s (heldAnswer (s .table) n))
 rowsFor s Beacon = plainRow beaconVerb (answerWith s 0) ++ planRows s
 rowsFor s OtherForm = plainRow rowVerb otherFormNumber

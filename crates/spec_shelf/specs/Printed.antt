@@ -1,22 +1,12 @@
 -- Printed rows. Document 01, "Reading, lending, printing": rows of six fields with CR LF. Assumes nothing.
-use Prim.Native.Nat.{ℕ, zero, suc}
+use Prim.Native.Nat.{ℕ, _+_, _*_}
 use mathlib.Core.List.{List, [], _∷_, _++_}
-use lib.ListN.{drop, getD}
-use Rattle.spec_shelf.specs.Bytes.{decimal}
+use Rattle.spec_lists.specs.Lists.{concatMap}
+use Rattle.spec_model.specs.declared.Name.{Name}
+use Rattle.spec_rules.specs.Slots.{Run}
+use Rattle.spec_rules.specs.Records.{recordsOf}
+use Rattle.spec_shelf.specs.Bytes.{numberMost, decimal}
 unfoldable pub use Rattle.spec_shelf.specs.Bytes.{written}
-
--- ---- room: the most bytes of the header's row, of the two rows of calls after their verb, and of a record's row
-abbrev pub headerMost : ℕ
-headerMost = 36
-
-abbrev pub plainMost : ℕ
-plainMost = 17
-
-abbrev pub streamMost : ℕ
-streamMost = 27
-
-abbrev pub slotRowMost : ℕ
-slotRowMost = 51
 
 -- ---- rows
 abbrev pub crlf : List ℕ
@@ -31,20 +21,41 @@ header =
 abbrev pub headerRow : List ℕ
 headerRow = header ++ crlf
 
--- a call without a stream: `verb,,,,,answer`
+-- a name, as its field has it
+unfoldable pub nameField : Name → List ℕ
+nameField n = decimal (n .stream)
+
+-- a call without a name: `verb,,,,,answer`
 unfoldable pub plainRow : List ℕ → ℕ → List ℕ
 plainRow verb answer = verb ++ 44 ∷ 44 ∷ 44 ∷ 44 ∷ 44 ∷ decimal answer ++ crlf
 
--- a call on a stream: `verb,stream,,,,answer`
-unfoldable pub streamRow : List ℕ → ℕ → ℕ → List ℕ
-streamRow verb stream answer = verb ++ 44 ∷ decimal stream ++ 44 ∷ 44 ∷ 44 ∷ 44 ∷ decimal answer ++ crlf
+-- a call with a name: `verb,stream,,,,answer`
+unfoldable pub streamRow : List ℕ → Name → ℕ → List ℕ
+streamRow verb n answer = verb ++ 44 ∷ nameField n ++ 44 ∷ 44 ∷ 44 ∷ 44 ∷ decimal answer ++ crlf
 
 -- a record: `slot,stream,job,start,length,`
-unfoldable pub slotRow : (stream job start len : ℕ) → List ℕ
-slotRow stream job start len =
-    115 ∷ 108 ∷ 111 ∷ 116 ∷ 44 ∷ decimal stream ++ 44 ∷ decimal job ++ 44 ∷ decimal start ++ 44 ∷ decimal len ++ 44 ∷ crlf
+unfoldable pub slotRowOf : Run → List ℕ
+slotRowOf r =
+    115 ∷ 108 ∷ 111 ∷ 116 ∷ 44 ∷ nameField (r .name) ++ 44 ∷ decimal (r .job) ++ 44 ∷ decimal (r .start)
+    ++ 44 ∷ decimal (r .length) ++ 44 ∷ crlf
 
 -- a row for each of the first n records of a plan's words
 unfoldable pub slotRows : ℕ → List ℕ → List ℕ
-slotRows zero ws = []
-slotRows (suc n) ws = slotRow (getD ws 0 0) (getD ws 1 0) (getD ws 2 0) (getD ws 3 0) ++ slotRows n (drop 4 ws)
+slotRows n ws = concatMap slotRowOf (recordsOf n ws)
+
+-- ---- room: the most bytes of a name's field, of the header's row, of the rows of calls after their verb (five commas, the numbers and
+-- CR LF), and of a record's row, which also has `slot`
+abbrev pub nameMost : ℕ
+nameMost = numberMost
+
+abbrev pub headerMost : ℕ
+headerMost = 36
+
+abbrev pub plainMost : ℕ
+plainMost = 5 + numberMost + 2
+
+abbrev pub streamMost : ℕ
+streamMost = nameMost + plainMost
+
+abbrev pub slotRowMost : ℕ
+slotRowMost = 4 + 5 + nameMost + 3 * numberMost + 2

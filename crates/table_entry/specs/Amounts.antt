@@ -2,13 +2,9 @@
 -- Assumes nothing.
 use mathlib.Core.Bool.{cond}
 use Prim.Native.Nat.{ℕ, _*_}
-use Rattle.spec_model.specs.Entries.{isHeld, isKind, isPiece}
+use Rattle.spec_model.specs.Entries.{isHeld, isPiece}
 use Rattle.spec_model.specs.declared.Entry.{Entry}
 use Rattle.spec_rules.specs.Share.{headroom, jobCount}
-
--- what a kind 1 stream takes of an interval; a piece has no load
-abbrev pub loadOf : Entry → ℕ
-loadOf e = cond (isKind 1 e) (e .parts * e .min .0) 0
 
 -- what is owed to a piece; a kind 1 stream is owed nothing
 abbrev pub owedTo : Entry → ℕ

@@ -3,10 +3,15 @@
 ghost use mathlib.Core.Path.{_≡_};
 ghost use Prim.Native.Nat.{_+_, _*_};
 ghost use Rattle.spec_model.specs.Entries.{isPiece};
-ghost use Rattle.spec_rules.specs.Share.{jobCount};
+ghost use Rattle.spec_model.specs.Names.{nameRank, nameRoom};
+ghost use Rattle.spec_rules.specs.Share.{jobCount, loadOf};
 ghost use Rattle.spec_rules.specs.Slots.{jobLength};
-ghost use Rattle.table_entry.specs.Amounts.{loadOf, owedTo, limitOf};
+ghost use Rattle.law_steps.specs.Ranks.{kindRoom};
+ghost use Rattle.table_entry.specs.Amounts.{owedTo, limitOf};
 use spec_model::Entry;
+use spec_model::Frame;
+use spec_model::Intervals;
+use spec_model::Name;
 use spec_model::Slots;
 
 // ---- the jobs of an entry in an interval: m for kind 1, one piece for the others
@@ -20,18 +25,18 @@ pub fn job_count(e: Entry) -> u32
     1
 }
 
-pub fn job_length(interval: Slots, e: Entry) -> Slots
-    ensures { λ r. ⌜ r .0 ≡ jobLength (interval .0) e ⌝ }
+pub fn job_length(f: Frame, e: Entry) -> Slots
+    ensures { λ r. ⌜ r .0 ≡ jobLength f e ⌝ }
 {
     let kind = e.kind;
     if kind == 1 {
-        return Slots(base_numbers::part_of(interval.0, e.parts));
+        return Slots(base_numbers::part_of(f.slots.0, e.parts));
     }
-    interval
+    f.slots
 }
 
 // ---- A. capacity
-// What a kind 1 stream takes of an interval: m times its minimum.
+// What an entry takes of every interval: m times its minimum for kind 1.
 pub fn load_of(e: Entry) -> u64
     ensures { λ r. ⌜ r ≡ loadOf e ⌝ }
 {
@@ -52,34 +57,43 @@ pub fn is_piece(e: Entry) -> bool
     kind == 2 || kind == 3
 }
 
-// Fewest intervals left, then kind 2 before 3, then lower stream number, as one number: the lower comes sooner.
-pub fn rank(left: u32, kind: u32, stream: u32) -> u64
-    ensures { λ r. ⌜ r ≡ (left * 4 + kind) * 65536 + stream ⌝ }
+// Room for a kind, and for the number of a name.
+pub const KIND_ROOM: u64 = 4;
+
+pub const NAME_ROOM: u64 = 65536;
+
+// One interval more.
+pub const RANK_INTERVAL: u64 = KIND_ROOM * NAME_ROOM;
+
+// Fewest intervals left, then kind 2 before 3, then the lower name, as one number: the lower comes sooner.
+pub fn rank(left: Intervals, kind: u32, name: Name) -> u64
+    ensures { λ r. ⌜ r ≡ (left .0 * kindRoom + kind) * nameRoom + nameRank name ⌝ }
 {
-    ((left as u64) * 4 + (kind as u64)) * 65536 + (stream as u64)
+    let first = (left.0 as u64) * KIND_ROOM + (kind as u64);
+    first * NAME_ROOM + spec_model::name_rank(name)
 }
 
-pub fn owed_of(e: Entry) -> u32
-    ensures { λ r. ⌜ r ≡ owedTo e ⌝ }
+pub fn owed_of(e: Entry) -> Slots
+    ensures { λ r. ⌜ r .0 ≡ owedTo e ⌝ }
 {
     if is_piece(e) {
-        return e.owed.0;
+        return e.owed;
     }
-    0
+    Slots(0)
 }
 
 // ---- C. what remains is shared in proportion
 // What an entry may still get before its slots of step B; a transfer has no part in step C.
-pub fn limit_of(e: Entry) -> u32
-    ensures { λ r. ⌜ r ≡ limitOf e ⌝ }
+pub fn limit_of(e: Entry) -> Slots
+    ensures { λ r. ⌜ r .0 ≡ limitOf e ⌝ }
 {
     let kind = e.kind;
     let most = e.max.0;
     if kind == 1 {
-        return base_numbers::less(most, e.min.0);
+        return Slots(base_numbers::less(most, e.min.0));
     }
     if kind == 2 {
-        return base_numbers::less(most, e.given.0);
+        return Slots(base_numbers::less(most, e.given.0));
     }
-    0
+    Slots(0)
 }

@@ -1,3 +1,4 @@
 pub mod Known
 mod Nobody
+pub mod Named
 pub mod Search

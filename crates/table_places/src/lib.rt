@@ -1,9 +1,10 @@
-// The places of a table: an entry put at one, and the place of a stream, in a table by value and in a lent one.
+// The places of a table: an entry put at one, and the place of a request by its name, in a table by value and in a lent one.
 ghost use mathlib.Core.Path.{_≡_};
-ghost use Rattle.spec_rules.specs.Tables.{putIn};
+ghost use Rattle.spec_model.specs.Tables.{putIn};
 ghost use Rattle.base_lists.specs.First.{firstOf};
 ghost use Rattle.table_places.specs.Search.{isHeldAs};
 use spec_model::Entry;
+use spec_model::Name;
 use spec_model::Table;
 
 // The table with the entry at the place; a place past the last changes nothing.
@@ -11,39 +12,39 @@ pub fn put_in(t: Table, place: usize, e: Entry) -> Table
     ensures { λ r. ⌜ r ≡ putIn t place e ⌝ }
 {
     let mut table = t;
-    if place < 32 {
+    if place < spec_model::PLACES {
         table.entries[place] = e;
     }
     table
 }
 
-// Stream 0 stands for a free place, and is held by nobody.
-pub fn place_of(t: Table, stream: u32) -> usize
-    ensures { λ r. ⌜ r ≡ firstOf (isHeldAs stream) (t .entries) ⌝ }
+// The name of a free place is held by nobody.
+pub fn place_of(t: Table, name: Name) -> usize
+    ensures { λ r. ⌜ r ≡ firstOf (isHeldAs name) (t .entries) ⌝ }
 {
-    if stream == 0 {
-        return 32;
+    if spec_model::is_nobody(name) {
+        return spec_model::NO_PLACE;
     }
-    for place in 0..32 {
+    for place in 0..spec_model::PLACES {
         let entry = t.entries[place];
-        if entry.stream == stream {
+        if spec_model::same(entry.name, name) {
             return place;
         }
     }
-    32
+    spec_model::NO_PLACE
 }
 
-pub fn place_in(table: &Table, stream: u32) -> usize
-    ensures { λ r. ⌜ r ≡ firstOf (isHeldAs stream) (now (table .entry) .entries) ⌝ }
+pub fn place_in(table: &Table, name: Name) -> usize
+    ensures { λ r. ⌜ r ≡ firstOf (isHeldAs name) (now (table .entry) .entries) ⌝ }
 {
-    if stream == 0 {
-        return 32;
+    if spec_model::is_nobody(name) {
+        return spec_model::NO_PLACE;
     }
-    for i in 0..32 {
+    for i in 0..spec_model::PLACES {
         let e = table.entries[i];
-        if e.stream == stream {
+        if spec_model::same(e.name, name) {
             return i;
         }
     }
-    32
+    spec_model::NO_PLACE
 }

@@ -12,7 +12,8 @@ use Rattle.base_lists.specs.Tests.{same-test}
 use Rattle.base_lists.specs.First.{firstOf, first-kept, kept-first}
 use Rattle.spec_model.specs.Entries.{isHeld}
 use Rattle.spec_model.specs.declared.Entry.{Entry}
-use Rattle.spec_rules.specs.Calls.{places, placed}
+use Rattle.spec_model.specs.Tables.{places}
+use Rattle.spec_rules.specs.Calls.{placed}
 
 abbrev pub isFree : Entry → Bool
 isFree e = not (isHeld e)

@@ -6,19 +6,22 @@ ghost use Prim.Native.Nat.{_+_, _*_, _≤_, _<_};
 ghost use lib.Dec.{eqb, leb};
 ghost use Rattle.spec_lists.specs.Lists.{sumOf};
 ghost use Rattle.base_lists.specs.First.{firstOf};
+ghost use Rattle.spec_model.specs.Tables.{places};
+ghost use Rattle.spec_model.specs.Frames.{roomIn};
 ghost use Rattle.spec_rules.specs.Calls.{holds};
-ghost use Rattle.law_steps.specs.Closed.{mostSlots};
-ghost use Rattle.law_steps.specs.Places.{Tidy};
+ghost use Rattle.spec_rules.specs.WellFormed.{Tidy};
+ghost use Rattle.spec_rules.specs.Share.{loadOf};
+ghost use Rattle.law_model.specs.Frames.{mostSlots};
 ghost use Rattle.table_queue.specs.Queues.{Used};
-ghost use Rattle.table_entry.specs.Amounts.{loadOf};
 ghost use Rattle.ahead_even.specs.Need.{evenNeed};
 ghost use Rattle.table_survey.specs.Free.{isFree};
 ghost use Rattle.table_survey.specs.Passes.{withEntry, mostNeed};
 use spec_model::Entry;
-use spec_model::Slots;
+use spec_model::Frame;
+use spec_model::Name;
 use spec_model::Table;
 
-// Whether the stream is held; the first free place, 32 where none is free; the slots of an interval that an even share takes; one more than
+// Whether the name is held; the first free place, or no place; the slots of an interval that an even share takes; one more than
 // the last held place, 0 where none is held.
 pub struct Survey {
     pub taken: bool,
@@ -38,7 +41,7 @@ fn or_else(a: bool, b: bool) -> bool
 
 // Place i is held: where every place before it is too, the next may be free.
 fn free_after(free: usize, i: usize) -> usize
-    requires { ⌜ i < 32 ⌝ }
+    requires { ⌜ i < places ⌝ }
     ensures { λ r. ⌜ r ≡ cond (eqb free i) (i + 1) free ⌝ }
 {
     if free == i {
@@ -48,16 +51,15 @@ fn free_after(free: usize, i: usize) -> usize
 }
 
 // One place more: a free one adds nothing.
-fn look_at(s: Survey, e: Entry, i: usize, stream: u32) -> Survey
-    requires { ⌜ (i < 32) × (s .needed ≤ mostNeed * i) ⌝ }
+fn look_at(s: Survey, e: Entry, i: usize, name: Name) -> Survey
+    requires { ⌜ (i < places) × (s .needed ≤ mostNeed * i) ⌝ }
     requires { ⌜ (loadOf e ≤ mostSlots) × (isFree e ≡ true → evenNeed e ≡ 0) ⌝ }
-    ensures { λ r. ⌜ (r ≡ withEntry stream i e s) × (r .needed ≤ mostNeed * (i + 1)) ⌝ }
+    ensures { λ r. ⌜ (r ≡ withEntry name i e s) × (r .needed ≤ mostNeed * (i + 1)) ⌝ }
 {
-    let own = e.stream;
-    if own == 0 {
+    if spec_model::is_nobody(e.name) {
         return s;
     }
-    let taken = or_else(s.taken, own == stream);
+    let taken = or_else(s.taken, spec_model::same(e.name, name));
     let free = free_after(s.free, i);
     let need = ahead_even::need_of(e);
     Survey {
@@ -68,9 +70,9 @@ fn look_at(s: Survey, e: Entry, i: usize, stream: u32) -> Survey
     }
 }
 
-pub fn survey_for(t: Table, stream: u32) -> Survey
+pub fn survey_for(t: Table, name: Name) -> Survey
     requires { ⌜ Tidy t ⌝ }
-    ensures { λ r. ⌜ (r .taken ≡ holds t stream) × (r .free ≡ firstOf isFree (t .entries)) × (r .needed ≡ sumOf evenNeed (t .entries))
+    ensures { λ r. ⌜ (r .taken ≡ holds t name) × (r .free ≡ firstOf isFree (t .entries)) × (r .needed ≡ sumOf evenNeed (t .entries))
         × Used (r .used) t ⌝ }
 {
     let mut s = Survey {
@@ -79,19 +81,19 @@ pub fn survey_for(t: Table, stream: u32) -> Survey
         needed: 0,
         used: 0,
     };
-    for i in 0..32 {
+    for i in 0..spec_model::PLACES {
         let e = t.entries[i];
-        s = look_at(s, e, i, stream);
+        s = look_at(s, e, i, name);
     }
     s
 }
 
 // ---- a quick yes
 // Whether an interval has room for an even share of what is held and of one entry more. Where it has not, the answer is still open.
-pub fn fits_with(needed: u64, e: Entry, interval: Slots) -> bool
-    ensures { λ r. ⌜ r ≡ leb (needed + evenNeed e) (interval .0) ⌝ }
+pub fn fits_with(needed: u64, e: Entry, f: Frame) -> bool
+    ensures { λ r. ⌜ r ≡ leb (needed + evenNeed e) (roomIn f) ⌝ }
 {
-    let slots = interval.0 as u64;
+    let slots = spec_model::room_in(f).0 as u64;
     if slots < needed {
         return false;
     }

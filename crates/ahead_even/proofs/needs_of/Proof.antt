@@ -1,69 +1,83 @@
 -- `ahead_even::needs_of` meets its contract. The invariant: what the first i places need. The measure is the number of places left.
 -- Assumes nothing.
-use mathlib.Core.Path.{_≡_, refl, sym, ap, _∙_}
-use mathlib.Core.List.{List}
-use Prim.Native.Nat.{ℕ, _*_, _-_, _≤_, _<_}
+use mathlib.Core.Path.{_≡_, sym, ap, _∙_}
+use Prim.Native.Nat.{_*_, _-_, _≤_, _<_}
 use native.Mathlib.Omega.{arith}
 use denote.Ref.{now}
-use Rattle.base_lists.specs.Loops.{summed, summed-more}
-use Rattle.base_lists.specs.Spare.{spare-sum}
-use Rattle.ahead_even.specs.Needs.{needsAt, needs-sized, needs-at, needs-spare}
 use borrow.Author.Needs.{needs}
+use Rattle.spec_model.specs.Tables.{places}
+use Rattle.table_queue.specs.Queues.{largest32}
+use Rattle.ahead_figures.specs.Columns.{Columns}
+use Rattle.ahead_figures.specs.Totals.{total, total-none, total-more, total-spare}
+use Rattle.ahead_even.specs.Needs.{needIn, shares, shared-free}
 use Rattle.ahead_even.proofs.needs_of.Statement.{statement}
 use Rattle.ahead_even.proofs.needs_of.Tie as tie
 
 abbrev Inv-loop : tie.InvT-loop
-Inv-loop owed ends amounts periods used at needs₀ i₀ needs i =
-    (i ≤ used) × (needs ≡ summed (λ v. v) i (needsAt at owed ends amounts periods)) × (needs ≤ 4294967295 * i)
+Inv-loop owed ends loads begins periods used at needs₀ i₀ needs i =
+    (i ≤ used) × (needs ≡ total i (needIn (at .0)) (shares owed ends loads begins periods)) × (needs ≤ 2 * largest32 * i)
 
 abbrev μ-loop : tie.MeasureT-loop
-μ-loop owed ends amounts periods used at needs₀ i₀ needs i = used - i
+μ-loop owed ends loads begins periods used at needs₀ i₀ needs i = used - i
 
--- what each place needs
-abbrev all : (z : tie.Start Inv-loop μ-loop) → List ℕ
-all z = needsAt (z .args .at) (now (z .args .owed)) (now (z .args .ends)) (now (z .args .amounts)) (now (z .args .periods))
-
-inside : (c : tie.In-loop Inv-loop μ-loop) → c .before .loop .i < 32
-inside c = omega (arith, c .before .before .pre .few)
+-- what is lent
+abbrev lent : tie.Start Inv-loop μ-loop → Columns
+lent s =
+    shares (now (s .args .owed)) (now (s .args .ends)) (now (s .args .loads)) (now (s .args .begins)) (now (s .args .periods))
 
 loop-holds : tie.Need-loop-holds Inv-loop μ-loop
-loop-holds c = (omega arith, refl, omega arith)
+loop-holds c = (omega arith, sym (total-none _ (lent c)), omega arith)
 
-mul-needed : tie.Need-mul-needed Inv-loop μ-loop
-mul-needed c = search needs
+mul-t14 : tie.Need-mul-t14 Inv-loop μ-loop
+mul-t14 c = search needs
 
-element-copy-out-needed : tie.Need-element-copy-out-needed Inv-loop μ-loop
-element-copy-out-needed c = search needs
+element-copy-out-t17 : tie.Need-element-copy-out-t17 Inv-loop μ-loop
+element-copy-out-t17 c = search needs
 
-mul-needed-2 : tie.Need-mul-needed-2 Inv-loop μ-loop
-mul-needed-2 c = search needs
+inside : (c : tie.In-loop Inv-loop μ-loop) → c .before .loop .i < places
+inside c = omega (arith, c .before .before .pre .few)
 
-element-copy-out-needed-2 : tie.Need-element-copy-out-needed-2 Inv-loop μ-loop
-element-copy-out-needed-2 c = search needs
+sub-t18 : tie.Need-sub-t18 Inv-loop μ-loop
+sub-t18 c = (let w = c .before .before in w .before .before .pre .ahead (w .before .loop .i) (inside w))
 
-sub-needed : tie.Need-sub-needed Inv-loop μ-loop
-sub-needed c = (let l = c .before .before in l .before .before .pre .ahead (l .before .loop .i) (inside l))
+mul-t14-2 : tie.Need-mul-t14-2 Inv-loop μ-loop
+mul-t14-2 c = search needs
 
-mul-needed-3 : tie.Need-mul-needed-3 Inv-loop μ-loop
-mul-needed-3 c = search needs
+element-copy-out-t18 : tie.Need-element-copy-out-t18 Inv-loop μ-loop
+element-copy-out-t18 c = search needs
 
-element-copy-out-needed-3 : tie.Need-element-copy-out-needed-3 Inv-loop μ-loop
-element-copy-out-needed-3 c = search needs
+mul-t22 : tie.Need-mul-t22 Inv-loop μ-loop
+mul-t22 c = search needs
 
-mul-needed-4 : tie.Need-mul-needed-4 Inv-loop μ-loop
-mul-needed-4 c = search needs
+element-copy-out-t17-2 : tie.Need-element-copy-out-t17-2 Inv-loop μ-loop
+element-copy-out-t17-2 c = search needs
 
-element-copy-out-needed-4 : tie.Need-element-copy-out-needed-4 Inv-loop μ-loop
-element-copy-out-needed-4 c = search needs
+mul-t26 : tie.Need-mul-t26 Inv-loop μ-loop
+mul-t26 c = search needs
 
-needed-requires : tie.Need-needed-requires Inv-loop μ-loop
-needed-requires c κs = search needs
+element-copy-out-t29 : tie.Need-element-copy-out-t29 Inv-loop μ-loop
+element-copy-out-t29 c = search needs
+
+evened-requires : tie.Need-evened-requires Inv-loop μ-loop
+evened-requires c κs = search needs
+
+mul-t14-3 : tie.Need-mul-t14-3 Inv-loop μ-loop
+mul-t14-3 c = search needs
+
+element-copy-out-t18-2 : tie.Need-element-copy-out-t18-2 Inv-loop μ-loop
+element-copy-out-t18-2 c = search needs
 
 cast-needs : tie.Need-cast-needs Inv-loop μ-loop
 cast-needs c = search needs
 
+cast-needs-2 : tie.Need-cast-needs-2 Inv-loop μ-loop
+cast-needs-2 c = search needs
+
 add-needs : tie.Need-add-needs Inv-loop μ-loop
 add-needs c = search needs
+
+add-needs-2 : tie.Need-add-needs-2 Inv-loop μ-loop
+add-needs-2 c = search needs
 
 add-i : tie.Need-add-i Inv-loop μ-loop
 add-i c = search needs
@@ -73,25 +87,26 @@ loop-less c = search needs
 
 loop-again : tie.Need-loop-again Inv-loop μ-loop
 loop-again c =
-    let l = c .before .before .before .before .before in
-    let z = l .before .before in
-    let v = l .before .loop .inv in
-    let h = inside l in
-    let n = c .needed .ensures in (
+    let l2 = c .before in
+    let d = l2 .before .before in
+    let w = d .before .before .before .before .before .before in
+    let l = w .before in
+    let s = l .before in
+    let h = w .loop-test .taken in
+    let v = l .loop .inv in (
       omega arith,
-      summed-more (λ w. w) (all z) (l .before .loop .i) 0 (omega (arith, needs-sized (z .pre))) (v .1)
-          (n ∙ sym (needs-at (z .pre) (l .before .loop .i) h)),
-      omega arith,
+      omega (arith, v .1, d .evened .ensures, total-more (needIn (s .args .at .0)) (lent s) (l .loop .i)),
+      omega (arith, v .2, l2 .struct-known2 .given, c .struct-known3 .given),
     )
 
 returns : tie.Need-returns Inv-loop μ-loop
 returns c =
     let l = c .before in
-    let z = l .before in
-    let e : l .loop .i ≡ z .args .used = omega arith in
+    let s = l .before in
+    let e : l .loop .i ≡ s .args .used = omega arith in
     l .loop .inv .1
-    ∙ ap (λ n. summed (λ v. v) n (all z)) e
-    ∙ spare-sum 0 (λ v. v) refl (z .args .used) (all z) (needs-spare (z .pre))
+    ∙ ap (λ n. total n (needIn (s .args .at .0)) (lent s)) e
+    ∙ total-spare (needIn (s .args .at .0)) (lent s) (s .pre .few) (shared-free (s .pre))
 
 pub needs-of-spec : {M : Type 1} → statement M
 needs-of-spec =
@@ -100,18 +115,22 @@ needs-of-spec =
     Inv-loop
     μ-loop
     loop-holds
-    mul-needed
-    element-copy-out-needed
-    mul-needed-2
-    element-copy-out-needed-2
-    sub-needed
-    mul-needed-3
-    element-copy-out-needed-3
-    mul-needed-4
-    element-copy-out-needed-4
-    needed-requires
+    mul-t14
+    element-copy-out-t17
+    sub-t18
+    mul-t14-2
+    element-copy-out-t18
+    mul-t22
+    element-copy-out-t17-2
+    mul-t26
+    element-copy-out-t29
+    evened-requires
+    mul-t14-3
+    element-copy-out-t18-2
     cast-needs
+    cast-needs-2
     add-needs
+    add-needs-2
     add-i
     loop-less
     loop-again

@@ -6,9 +6,9 @@ use lib.ListN.{take}
 use denote.Ref.{now}
 use Rattle.ahead_next.specs.Ends.{firstEnd}
 use Rattle.ahead_next.specs.EndLaws.{first-more, first-all}
+use Rattle.ahead_next.proofs.next_end.Statement.{statement}
 use native.Mathlib.Omega.{arith}
 use borrow.Author.Needs.{needs}
-use Rattle.ahead_next.proofs.next_end.Statement.{statement}
 use Rattle.ahead_next.proofs.next_end.Tie as tie
 
 abbrev Inv-loop : tie.InvT-loop

@@ -3,22 +3,25 @@
 use mathlib.Core.Path.{ap}
 use mathlib.Core.Logic.{inl, inr}
 use Prim.Native.Nat.{_-_, _≤_, _<_}
-use Rattle.ahead_figures.specs.declared.Figures.{Figures}
-use Rattle.ahead_pass.specs.PassingLaws.{Passing, passing-none, passing-here, passing-same, passing-more, passing-all}
 use native.Mathlib.Omega.{arith}
 use borrow.Author.Needs.{needs}
+use Rattle.spec_model.specs.Tables.{places}
+use Rattle.ahead_figures.specs.Columns.{columns}
+use Rattle.ahead_figures.specs.declared.Figures.{Figures}
+use Rattle.ahead_pass.specs.PassingLaws.{Passing, passing-none, passing-here, passing-same, passing-more, passing-all}
 use Rattle.ahead_pass.proofs.pass_ends.Statement.{statement}
 use Rattle.ahead_pass.proofs.pass_ends.Tie as tie
 
 abbrev Inv-loop : tie.InvT-loop
-Inv-loop ranks₀ owed₀ ends₀ lives amounts₀ periods used at i₀ ranks owed ends amounts i =
-    (i ≤ used) × Passing at ranks₀ owed₀ ends₀ lives amounts₀ periods i ranks owed ends amounts
+Inv-loop ranks₀ owed₀ ends₀ lives loads₀ begins₀ periods used at i₀ ranks owed ends loads begins i =
+    (i ≤ used)
+    × Passing (at .0) (columns ranks₀ owed₀ ends₀ lives loads₀ begins₀ periods) i (columns ranks owed ends lives loads begins periods)
 
 abbrev μ-loop : tie.MeasureT-loop
-μ-loop ranks₀ owed₀ ends₀ lives amounts₀ periods used at i₀ ranks owed ends amounts i = used - i
+μ-loop ranks₀ owed₀ ends₀ lives loads₀ begins₀ periods used at i₀ ranks owed ends loads begins i = used - i
 
 loop-holds : tie.Need-loop-holds Inv-loop μ-loop
-loop-holds c = (omega arith, passing-none _ _ _ _ _ _ _ (c .pre .1 .0) (c .pre .1 .1 .0) (c .pre .1 .1 .1 .0) (c .pre .1 .1 .1 .1))
+loop-holds c = (omega arith, passing-none _ _ (c .pre .sized))
 
 mul-if1 : tie.Need-mul-if1 Inv-loop μ-loop
 mul-if1 c = search needs
@@ -26,48 +29,50 @@ mul-if1 c = search needs
 element-copy-out-if1 : tie.Need-element-copy-out-if1 Inv-loop μ-loop
 element-copy-out-if1 c = search needs
 
-mul-t17 : tie.Need-mul-t17 Inv-loop μ-loop
-mul-t17 c = search needs
+mul-t18 : tie.Need-mul-t18 Inv-loop μ-loop
+mul-t18 c = search needs
 
-element-copy-out-t20 : tie.Need-element-copy-out-t20 Inv-loop μ-loop
-element-copy-out-t20 c = search needs
+element-copy-out-t21 : tie.Need-element-copy-out-t21 Inv-loop μ-loop
+element-copy-out-t21 c = search needs
 
-mul-t21 : tie.Need-mul-t21 Inv-loop μ-loop
-mul-t21 c = search needs
+mul-t22 : tie.Need-mul-t22 Inv-loop μ-loop
+mul-t22 c = search needs
 
-element-copy-out-t24 : tie.Need-element-copy-out-t24 Inv-loop μ-loop
-element-copy-out-t24 c = search needs
+element-copy-out-t25 : tie.Need-element-copy-out-t25 Inv-loop μ-loop
+element-copy-out-t25 c = search needs
 
-mul-t25 : tie.Need-mul-t25 Inv-loop μ-loop
-mul-t25 c = search needs
+mul-t27 : tie.Need-mul-t27 Inv-loop μ-loop
+mul-t27 c = search needs
 
-element-copy-out-t28 : tie.Need-element-copy-out-t28 Inv-loop μ-loop
-element-copy-out-t28 c = search needs
+element-copy-out-t30 : tie.Need-element-copy-out-t30 Inv-loop μ-loop
+element-copy-out-t30 c = search needs
 
-mul-t29 : tie.Need-mul-t29 Inv-loop μ-loop
-mul-t29 c = search needs
+mul-t32 : tie.Need-mul-t32 Inv-loop μ-loop
+mul-t32 c = search needs
 
-element-copy-out-t32 : tie.Need-element-copy-out-t32 Inv-loop μ-loop
-element-copy-out-t32 c = search needs
+element-copy-out-t35 : tie.Need-element-copy-out-t35 Inv-loop μ-loop
+element-copy-out-t35 c = search needs
 
-mul-t33 : tie.Need-mul-t33 Inv-loop μ-loop
-mul-t33 c = search needs
+mul-t37 : tie.Need-mul-t37 Inv-loop μ-loop
+mul-t37 c = search needs
 
-element-copy-out-t36 : tie.Need-element-copy-out-t36 Inv-loop μ-loop
-element-copy-out-t36 c = search needs
+element-copy-out-t40 : tie.Need-element-copy-out-t40 Inv-loop μ-loop
+element-copy-out-t40 c = search needs
+
+mul-t42 : tie.Need-mul-t42 Inv-loop μ-loop
+mul-t42 c = search needs
+
+element-copy-out-t45 : tie.Need-element-copy-out-t45 Inv-loop μ-loop
+element-copy-out-t45 c = search needs
 
 after-end-requires : tie.Need-after-end-requires Inv-loop μ-loop
 after-end-requires c κs =
-    let l = c .before .before .before .before .before .before .before .before in
-    let s = l .before in
-    let room = s .pre .0 .1 .1 in
-    let h : l .loop .i < 32 = omega (arith, c .before .before .before .before .before .before .before .loop-test .taken, s .pre .0 .0) in
+    let w = c .before .before .before .before .before .before .before .before .before in
+    let l = w .before in
+    let room = l .before .pre in
+    let h : l .loop .i < places = omega (arith, w .loop-test .taken, room .few) in
     record {
-      rank = omega (
-        arith,
-        ap (λ (f : Figures). f .rank) (passing-here (s .args .at) _ _ _ _ _ _ (l .loop .inv .1) h),
-        room .rank (l .loop .i) h,
-      );
+      rank = omega (arith, ap (λ (f : Figures). f .rank) (passing-here _ _ (l .loop .inv .1) h), room .rank (l .loop .i) h);
       period = room .period (l .loop .i) h;
       soon = room .soon;
     }
@@ -90,11 +95,17 @@ mul-ends c = search needs
 element-write-ends : tie.Need-element-write-ends Inv-loop μ-loop
 element-write-ends c = search needs
 
-mul-amounts : tie.Need-mul-amounts Inv-loop μ-loop
-mul-amounts c = search needs
+mul-loads : tie.Need-mul-loads Inv-loop μ-loop
+mul-loads c = search needs
 
-element-write-amounts : tie.Need-element-write-amounts Inv-loop μ-loop
-element-write-amounts c = search needs
+element-write-loads : tie.Need-element-write-loads Inv-loop μ-loop
+element-write-loads c = search needs
+
+mul-begins : tie.Need-mul-begins Inv-loop μ-loop
+mul-begins c = search needs
+
+element-write-begins : tie.Need-element-write-begins Inv-loop μ-loop
+element-write-begins c = search needs
 
 add-i : tie.Need-add-i Inv-loop μ-loop
 add-i c = search needs
@@ -104,24 +115,22 @@ loop-less c = search needs
 
 loop-again : tie.Need-loop-again Inv-loop μ-loop
 loop-again c =
-    let l = c .before .before .before in
-    let s = l .before in
-    let a = s .args .at in
+    let w = c .before .before .before in
+    let l = w .before in
     let v = l .loop .inv .1 in
-    let h : l .loop .i < 32 = omega (arith, c .before .before .loop-test .taken, s .pre .0 .0) in (
-      omega (arith, c .before .before .loop-test .taken),
+    let h : l .loop .i < places = omega (arith, w .loop-test .taken, l .before .pre .few) in (
+      omega (arith, w .loop-test .taken),
       elim (c .if1 .came) [
-        | inl w ↦ rw (w .7, w .8, w .9, w .10) (passing-more a _ _ _ _ _ _ v h (w .0 .taken) (w .6 .ensures))
-        | inr w ↦ rw (w .1, w .2, w .3, w .4) (passing-same a _ _ _ _ _ _ v h (w .0 .left))
+        | inl t ↦ rw (t .8, t .9, t .10, t .11, t .12) (passing-more _ _ v h (t .0 .taken) (t .7 .ensures))
+        | inr t ↦ rw (t .1, t .2, t .3, t .4, t .5) (passing-same _ _ v h (t .0 .left))
       ],
     )
 
 returns : tie.Need-returns Inv-loop μ-loop
 returns c =
     let l = c .before in
-    let s = l .before in
-    let p = s .pre .0 .1 in
-    passing-all (s .args .at) _ _ _ _ _ _ (l .loop .inv .1) (c .loop-test .left) (s .pre .1 .1 .1 .0) (p .0) (omega (arith, p .1 .soon))
+    let p = l .before .pre in
+    passing-all _ _ (l .loop .inv .1) (c .loop-test .left) (p .sized) (p .spare) (omega (arith, p .soon))
 
 pub pass-ends-spec : {M : Type 1} → statement M
 pass-ends-spec =
@@ -132,16 +141,18 @@ pass-ends-spec =
     loop-holds
     mul-if1
     element-copy-out-if1
-    mul-t17
-    element-copy-out-t20
-    mul-t21
-    element-copy-out-t24
-    mul-t25
-    element-copy-out-t28
-    mul-t29
-    element-copy-out-t32
-    mul-t33
-    element-copy-out-t36
+    mul-t18
+    element-copy-out-t21
+    mul-t22
+    element-copy-out-t25
+    mul-t27
+    element-copy-out-t30
+    mul-t32
+    element-copy-out-t35
+    mul-t37
+    element-copy-out-t40
+    mul-t42
+    element-copy-out-t45
     after-end-requires
     mul-ranks
     element-write-ranks
@@ -149,8 +160,10 @@ pass-ends-spec =
     element-write-owed
     mul-ends
     element-write-ends
-    mul-amounts
-    element-write-amounts
+    mul-loads
+    element-write-loads
+    mul-begins
+    element-write-begins
     add-i
     loop-less
     loop-again

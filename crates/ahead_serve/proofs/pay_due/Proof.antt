@@ -5,13 +5,13 @@ use native.Mathlib.Omega.{arith}
 use lib.Dec.{eqb}
 use lib.ListN.{getD}
 use Rattle.base_lists.specs.Tests.{cond-le}
-use borrow.Author.Needs.{needs}
 use Rattle.ahead_serve.proofs.Paying.{Paying, paying-none, paying-more, paying-all}
 use Rattle.ahead_serve.proofs.pay_due.Statement.{statement}
+use borrow.Author.Needs.{needs}
 use Rattle.ahead_serve.proofs.pay_due.Tie as tie
 
 abbrev Inv-loop : tie.InvT-loop
-Inv-loop owed₀ ends used at due₀ i₀ owed due i = Paying at ends owed₀ used i due owed
+Inv-loop owed₀ ends used at due₀ i₀ owed due i = Paying (at .0) ends owed₀ used i due owed
 
 abbrev μ-loop : tie.MeasureT-loop
 μ-loop owed₀ ends used at due₀ i₀ owed due i = used - i
@@ -25,11 +25,11 @@ mul-own c = search needs
 element-copy-out-own : tie.Need-element-copy-out-own Inv-loop μ-loop
 element-copy-out-own c = search needs
 
-mul-due-if : tie.Need-mul-due-if Inv-loop μ-loop
-mul-due-if c = search needs
+mul-owed : tie.Need-mul-owed Inv-loop μ-loop
+mul-owed c = search needs
 
-element-copy-out-due-if : tie.Need-element-copy-out-due-if Inv-loop μ-loop
-element-copy-out-due-if c = search needs
+element-copy-out-owed : tie.Need-element-copy-out-owed Inv-loop μ-loop
+element-copy-out-owed c = search needs
 
 due-if-requires : tie.Need-due-if-requires Inv-loop μ-loop
 due-if-requires c κs = search needs
@@ -42,12 +42,13 @@ add-due c = search needs
 
 sub-owed : tie.Need-sub-owed Inv-loop μ-loop
 sub-owed c =
-    let l = c .before .before .before .before in
+    let d = c .before .before in
+    let l = d .before .before .before .before in
     let a = l .before .args in
-    omega (arith, c .due-if .ensures, cond-le (eqb (getD (a .ends .now) (l .loop .i) 0) (a .at)) (getD (l .loop .owed) (l .loop .i) 0))
+    omega (arith, d .due-if .ensures, cond-le (eqb (getD (a .ends .now) (l .loop .i) 0) (a .at .0)) (getD (l .loop .owed) (l .loop .i) 0))
 
-mul-owed : tie.Need-mul-owed Inv-loop μ-loop
-mul-owed c = search needs
+mul-owed-2 : tie.Need-mul-owed-2 Inv-loop μ-loop
+mul-owed-2 c = search needs
 
 element-write-owed : tie.Need-element-write-owed Inv-loop μ-loop
 element-write-owed c = search needs
@@ -60,9 +61,10 @@ loop-less c = search needs
 
 loop-again : tie.Need-loop-again Inv-loop μ-loop
 loop-again c =
-    let w = c .before .before .before in
+    let d = c .before .before in
+    let w = d .before .before .before in
     let l = w .before in
-    paying-more (l .before .pre) (l .loop .inv) (w .loop-test .taken) (c .due-if .ensures) (omega (arith, c .due-if .ok))
+    paying-more (l .before .pre) (l .loop .inv) (w .loop-test .taken) (d .due-if .ensures) (omega (arith, c .before .struct-known .given))
 
 returns : tie.Need-returns Inv-loop μ-loop
 returns c = paying-all (c .before .before .pre) (c .before .loop .inv) (c .loop-test .left)
@@ -76,13 +78,13 @@ pay-due-spec =
     loop-holds
     mul-own
     element-copy-out-own
-    mul-due-if
-    element-copy-out-due-if
+    mul-owed
+    element-copy-out-owed
     due-if-requires
     cast-due
     add-due
     sub-owed
-    mul-owed
+    mul-owed-2
     element-write-owed
     add-i
     loop-less

@@ -38,7 +38,7 @@ piece-of-requires : tie.Need-piece-of-requires Inv-loop μ-loop
 piece-of-requires c κs = search needs
 
 sub-owed : tie.Need-sub-owed Inv-loop μ-loop
-sub-owed c = omega (arith, c .piece-of .ensures)
+sub-owed c = omega (arith, c .before .piece-of .ensures)
 
 mul-owed : tie.Need-mul-owed Inv-loop μ-loop
 mul-owed c = search needs
@@ -50,21 +50,23 @@ cast-rest : tie.Need-cast-rest Inv-loop μ-loop
 cast-rest c = search needs
 
 sub-rest : tie.Need-sub-rest Inv-loop μ-loop
-sub-rest c = omega (arith, c .piece-of .ensures)
+sub-rest c = omega (arith, c .before .before .piece-of .ensures)
 
 loop-less : tie.Need-loop-less Inv-loop μ-loop
 loop-less c =
-    let f = c .before .before .before in
-    omega (arith, c .piece-of .ensures, f .first-owed .ensures .some (omega arith))
+    let p = c .before .before in
+    let f = p .before .before .before in
+    omega (arith, p .piece-of .ensures, f .first-owed .ensures .some (omega arith))
 
 loop-again : tie.Need-loop-again Inv-loop μ-loop
 loop-again c =
-    let f = c .before .before .before in
+    let p = c .before .before in
+    let f = p .before .before .before in
     let l = f .before .before .before in
     let v = l .loop .inv in
     let first = f .first-owed .ensures in
-    let h = c .before .before .if1 .left in
-    let e = c .piece-of .ensures in (
+    let h = p .before .before .if1 .left in
+    let e = p .piece-of .ensures in (
       served-ranked (l .loop .rest) (v .0) first h e,
       served-left (l .loop .rest) (v .0) first h e ∙ v .1,
       omega (arith, v .2),

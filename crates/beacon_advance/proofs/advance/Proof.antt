@@ -1,27 +1,20 @@
 use mathlib.Core.Path.{_≡_, refl, ap, _∙_}
+use Prim.Native.Nat.{_-_, _≤_, _<_}
 use native.Mathlib.Omega.{arith}
-use Rattle.base_lists.specs.All.{all-at}
-use Rattle.base_lists.specs.Loops.{mapped, mapped-more}
-use Rattle.base_lists.specs.Spare.{spare-mapped}
+use lib.ListN.{length, getD}
 use Rattle.spec_model.specs.Entries.{freeEntry}
-use Rattle.spec_model.specs.declared.Entry.{Entry}
-use Rattle.spec_model.specs.declared.Table.{Table}
+use Rattle.spec_model.specs.Tables.{withEntries}
 use Rattle.law_steps.specs.Settled.{after-free}
 use Rattle.table_queue.proofs.Known.{used-inside, used-rest}
-use Prim.Native.Nat.{_-_, _≤_, _<_}
-use lib.ListN.{length, getD}
-use Rattle.beacon_share.specs.Shares.{sharingOf, grantOf, piece-found, extra-found}
-use Rattle.spec_rules.specs.Tables.{withEntries}
-use Rattle.beacon_advance.specs.Next.{WithinAmounts, unmoved, afterGrant, advanced-places, grants-within}
+use Rattle.beacon_share.specs.Shares.{granted}
+use Rattle.beacon_advance.specs.Zipped.{zipped, zipped-more, zipped-all}
+use Rattle.beacon_advance.specs.Moving.{afterGrant, unmoved}
 use borrow.Author.Needs.{needs}
 use Rattle.beacon_advance.proofs.advance.Statement.{statement}
 use Rattle.beacon_advance.proofs.advance.Tie as tie
 
-abbrev stepIn : Table → Entry → Entry
-stepIn t e = afterGrant (grantOf (sharingOf t) (t .entries) e) e
-
 abbrev Inv-loop : tie.InvT-loop
-Inv-loop used s t i₀ next i = (i ≤ used) × (next ≡ withEntries t (mapped (stepIn t) i (t .entries)))
+Inv-loop used s t i₀ next i = (i ≤ used) × (next ≡ withEntries t (zipped afterGrant i (s .grants) (t .entries)))
 
 abbrev μ-loop : tie.MeasureT-loop
 μ-loop used s t i₀ next i = used - i
@@ -35,40 +28,29 @@ mul-e c = search needs
 element-copy-out-e : tie.Need-element-copy-out-e Inv-loop μ-loop
 element-copy-out-e c = search needs
 
-mul-t11 : tie.Need-mul-t11 Inv-loop μ-loop
-mul-t11 c = search needs
+mul-g : tie.Need-mul-g Inv-loop μ-loop
+mul-g c = search needs
 
-element-copy-out-t17 : tie.Need-element-copy-out-t17 Inv-loop μ-loop
-element-copy-out-t17 c = search needs
-
-mul-t19 : tie.Need-mul-t19 Inv-loop μ-loop
-mul-t19 c = search needs
-
-element-copy-out-t22 : tie.Need-element-copy-out-t22 Inv-loop μ-loop
-element-copy-out-t22 c = search needs
+element-copy-out-g : tie.Need-element-copy-out-g Inv-loop μ-loop
+element-copy-out-g c = search needs
 
 within : (c : tie.After-e Inv-loop μ-loop) → c .before .before .loop .i < length (c .before .before .before .args .t .entries)
 within c =
     let s = c .before .before .before in
-    used-inside (s .args .t) (s .good .0) (s .pre .0 .1) (c .before .loop-test .taken)
+    used-inside (s .args .t) (s .good .0) (s .pre .used) (c .before .loop-test .taken)
 
 -- its entry is still that of the table
 here : (c : tie.After-e Inv-loop μ-loop) → (let l = c .before .before in
     getD (l .loop .next .entries) (l .loop .i) freeEntry ≡ getD (l .before .args .t .entries) (l .loop .i) freeEntry)
 here c =
     let l = c .before .before in
-    let t = l .before .args .t in
-    unmoved t (stepIn t) (l .loop .inv .1) (within c)
+    let s = l .before in
+    unmoved (s .args .t) (s .args .t3) (s .pre .sized) (l .loop .i) (l .loop .inv .1) (within c)
 
 after-grant-requires : tie.Need-after-grant-requires Inv-loop μ-loop
 after-grant-requires c κs =
-    let l = c .before .before .before .before in
-    let s = l .before in
-    let t = s .args .t in
-    let h = within (c .before .before) in
-    rw (here (c .before .before), piece-found t (s .pre .1) (l .loop .i) h, extra-found t (s .pre .1) (l .loop .i) h)
-    (all-at (λ e. WithinAmounts (grantOf (sharingOf t) (t .entries) e) e) (t .entries) freeEntry
-    (grants-within t (s .pre .0 .0) (sharingOf t)) _ h)
+    let l = c .before .before .before in
+    rw (here (c .before)) (l .before .pre .within (l .loop .i) (c .before .before .loop-test .taken))
 
 mul-n : tie.Need-mul-n Inv-loop μ-loop
 mul-n c = search needs
@@ -84,19 +66,14 @@ loop-less c = search needs
 
 loop-again : tie.Need-loop-again Inv-loop μ-loop
 loop-again c =
-    let l = c .before .before .before .before .before in
+    let e = c .before .before in
+    let l = e .before .before in
     let s = l .before in
-    let t = s .args .t in
-    let h = within (c .before .before .before) in (
+    let t = s .args .t in (
       omega arith,
-      rw (
-        c .after-grant .ensures,
-        here (c .before .before .before),
-        piece-found t (s .pre .1) (l .loop .i) h,
-        extra-found t (s .pre .1) (l .loop .i) h,
-        l .loop .inv .1,
-      )
-          (ap (withEntries t) (mapped-more (stepIn t) (t .entries) _ freeEntry h)),
+      rw (c .after-grant .ensures, here e, l .loop .inv .1)
+          (ap (withEntries t)
+          (zipped-more afterGrant (s .args .t3 .grants) (t .entries) (l .loop .i) (granted 0 0) freeEntry (s .pre .sized) (within e))),
     )
 
 returns : tie.Need-returns Inv-loop μ-loop
@@ -106,9 +83,8 @@ returns c =
     let t = s .args .t in
     l .loop .inv .1
     ∙ ap (withEntries t)
-    (spare-mapped freeEntry (stepIn t) (after-free _ _) (l .loop .i) (t .entries)
-    (used-rest t (s .good .0) (s .pre .0 .1) (l .loop .inv .0) (c .loop-test .left)))
-    ∙ advanced-places t (s .pre .0 .0)
+    (zipped-all afterGrant (λ g. after-free (g .piece .0) (g .extra .0)) (l .loop .i) (s .args .t3 .grants) (t .entries) (s .pre .sized)
+    (used-rest t (s .good .0) (s .pre .used) (l .loop .inv .0) (c .loop-test .left)))
 
 pub advance-spec : {M : Type 1} → statement M
 advance-spec =
@@ -119,10 +95,8 @@ advance-spec =
     loop-holds
     mul-e
     element-copy-out-e
-    mul-t11
-    element-copy-out-t17
-    mul-t19
-    element-copy-out-t22
+    mul-g
+    element-copy-out-g
     after-grant-requires
     mul-n
     element-set-from-n

@@ -1,4 +1,4 @@
-use mathlib.Core.Path.{_≡_, refl, sym, ap, ap₂, subst, _∙_}
+use mathlib.Core.Path.{_≡_, refl, sym, ap, subst, _∙_}
 use mathlib.Core.List.{_++_, map}
 use Prim.Native.Nat.{ℕ, _*_, _-_, _≤_, _<_}
 use native.Mathlib.Omega.{arith}
@@ -7,10 +7,13 @@ use denote.Ref.{now}
 use Rattle.spec_lists.specs.All.{All}
 use Rattle.base_lists.specs.All.{all-at}
 use Rattle.spec_model.specs.Entries.{freeEntry}
+use Rattle.spec_model.specs.Frames.{slotsIn}
+use Rattle.spec_model.specs.Tables.{places}
 use Rattle.spec_model.specs.declared.Entry.{Entry}
-use Rattle.spec_rules.specs.Calls.{wordsOf, planOf}
+use Rattle.spec_rules.specs.Records.{recordWords, wordsOf}
+use Rattle.spec_rules.specs.Calls.{planOf}
 use Rattle.law_steps.specs.Ranks.{rank, rankMost}
-use Rattle.beacon_share.specs.Shares.{granted, sharingOf, grantOf, piece-found, extra-found}
+use Rattle.beacon_share.specs.Shares.{grantAt, sharingOf, grantOf, grant-found}
 use Rattle.table_places.proofs.Known.{inside}
 use Rattle.beacon_order.specs.Listed.{orderOf}
 use Rattle.beacon_order.specs.TiePlaces.{ranks-most}
@@ -26,11 +29,10 @@ use Rattle.beacon_jobs.proofs.write_jobs.Statement.{statement}
 use Rattle.beacon_jobs.proofs.write_jobs.Tie as tie
 
 abbrev Inv-loop : tie.InvT-loop
-Inv-loop plan t s o interval count streams₀ lengths₀ counts₀ each₀ k₀ streams lengths counts each k =
-    Making t o streams lengths counts each k
+Inv-loop plan t s o frame count names₀ lengths₀ counts₀ each₀ k₀ names lengths counts each k = Making t o names lengths counts each k
 
 abbrev μ-loop : tie.MeasureT-loop
-μ-loop plan t s o interval count streams₀ lengths₀ counts₀ each₀ k₀ streams lengths counts each k = count - k
+μ-loop plan t s o frame count names₀ lengths₀ counts₀ each₀ k₀ names lengths counts each k = count - k
 
 ordered-requires : tie.Need-ordered-requires Inv-loop μ-loop
 ordered-requires c κs =
@@ -39,24 +41,31 @@ ordered-requires c κs =
     (k .used .0, subst (All (λ r. r ≤ rankMost)) (sym (k .ranks)) (ranks-most (s .args .t1) (s .pre .0 .0)))
 
 -- the order is that of the table's ranks
-order : (c : tie.After-ordered Inv-loop μ-loop) → (let s = c .before .before .before in
+abbrev start : tie.After-ordered Inv-loop μ-loop → tie.Start Inv-loop μ-loop
+start c = c .before .before .before
+
+order : (c : tie.After-ordered Inv-loop μ-loop) → (let s = start c in
     c .ordered .result ≡ orderOf (map rank (s .args .t1 .entries)) (s .args .q .used))
-order c =
-    let s = c .before .before .before in
-    c .ordered .ensures ∙ ap (λ rs. orderOf rs (s .args .q .used)) (s .pre .0 .1 .ranks)
+order c = (let s = start c in c .ordered .ensures ∙ ap (λ rs. orderOf rs (s .args .q .used)) (s .pre .0 .1 .ranks))
 
 listed : (c : tie.After-ordered Inv-loop μ-loop) → Listed (c .ordered .result)
-listed c =
-    let s = c .before .before .before in
-    order-listed (s .args .t1) (s .pre .0 .0) (s .pre .0 .1 .used) (order c)
+listed c = (let s = start c in order-listed (s .args .t1) (s .pre .0 .0) (s .pre .0 .1 .used) (order c))
+
+free-entry-requires : tie.Need-free-entry-requires Inv-loop μ-loop
+free-entry-requires c κs = search needs
 
 loop-holds : tie.Need-loop-holds Inv-loop μ-loop
 loop-holds c =
-    let s = c .before .before .before .before in
-    making-starts (s .args .t1) (s .pre .0 .0) _
+    let f = c .before in
+    let s = start (f .before .before) in
+    rw (f .free-entry .ensures) (making-starts (s .args .t1) (s .pre .0 .0) _)
 
-row-inside : (c : tie.In-loop Inv-loop μ-loop) → c .before .loop .k < 32
-row-inside c = omega (arith, c .loop-test .taken, listed (c .before .before .before) .few)
+-- the order that a turn goes by
+abbrev by : tie.At-loop Inv-loop μ-loop → tie.After-ordered Inv-loop μ-loop
+by l = l .before .before .before .before
+
+row-inside : (c : tie.In-loop Inv-loop μ-loop) → c .before .loop .k < places
+row-inside c = omega (arith, c .loop-test .taken, listed (by (c .before)) .few)
 
 mul-i : tie.Need-mul-i Inv-loop μ-loop
 mul-i c = search (needs, row-inside c)
@@ -66,11 +75,11 @@ element-copy-out-i c = search (needs, row-inside c)
 
 -- the row reads a place of the table
 listed-inside : (c : tie.After-i Inv-loop μ-loop) → (let l = c .before .before in
-    getD (l .before .before .ordered .result .places) (l .loop .k) 0 < 32)
+    getD (by l .ordered .result .places) (l .loop .k) 0 < places)
 listed-inside c =
     let l = c .before .before in
-    let o = l .before .before in
-    place-inside (o .before .before .before .args .t1) (o .ordered .result) (listed o) (l .loop .k) (c .before .loop-test .taken)
+    let o = by l in
+    place-inside (start o .args .t1) (o .ordered .result) (listed o) (l .loop .k) (c .before .loop-test .taken)
 
 mul-e : tie.Need-mul-e Inv-loop μ-loop
 mul-e c = search (needs, listed-inside c)
@@ -81,75 +90,69 @@ element-copy-out-e c = search (needs, listed-inside c)
 job-length-requires : tie.Need-job-length-requires Inv-loop μ-loop
 job-length-requires c κs = search needs
 
-mul-counts : tie.Need-mul-counts Inv-loop μ-loop
-mul-counts c = search (needs, listed-inside (c .before .before))
+mul-g : tie.Need-mul-g Inv-loop μ-loop
+mul-g c = search (needs, listed-inside (c .before .before))
 
-element-copy-out-counts : tie.Need-element-copy-out-counts Inv-loop μ-loop
-element-copy-out-counts c = search (needs, listed-inside (c .before .before))
-
-mul-t23 : tie.Need-mul-t23 Inv-loop μ-loop
-mul-t23 c = search (needs, listed-inside (c .before .before .before))
-
-element-copy-out-t36 : tie.Need-element-copy-out-t36 Inv-loop μ-loop
-element-copy-out-t36 c = search (needs, listed-inside (c .before .before .before))
+element-copy-out-g : tie.Need-element-copy-out-g Inv-loop μ-loop
+element-copy-out-g c = search (needs, listed-inside (c .before .before))
 
 -- the entry of the row, what it gets, and that its needs have 32 bits
-abbrev own : tie.After-e Inv-loop μ-loop → Entry
-own c =
-    let l = c .before .before .before in
-    let o = l .before .before in
-    entryAt (o .before .before .before .args .t1) (getD (o .ordered .result .places) (l .loop .k) 0)
-
 module _ (c : tie.After-e Inv-loop μ-loop) where
-  abbrev start : tie.Start Inv-loop μ-loop
-  start = c .before .before .before .before .before .before .before .before
+  abbrev turn : tie.At-loop Inv-loop μ-loop
+  turn = c .before .before .before
+
+  abbrev entry : tie.Start Inv-loop μ-loop
+  entry = start (by turn)
 
   abbrev at : ℕ
-  at = getD (c .before .before .before .before .before .ordered .result .places) (c .before .before .before .loop .k) 0
+  at = getD (by turn .ordered .result .places) (turn .loop .k) 0
 
-  reads : at < length (start .args .t1 .entries)
-  reads = inside (start .args .t1) (start .good .0) (listed-inside (c .before))
+  abbrev own : Entry
+  own = entryAt (entry .args .t1) at
 
-  pieced : getD (start .args .t3 .pieces) at 0 ≡ grantOf (sharingOf (start .args .t1)) (start .args .t1 .entries) (own c) .piece .0
-  pieced = piece-found (start .args .t1) (start .pre .1 .0) at reads
+  reads : at < length (entry .args .t1 .entries)
+  reads = inside (entry .args .t1) (entry .good .0) (listed-inside (c .before))
 
-  extended : getD (start .args .t3 .extras) at 0 ≡ grantOf (sharingOf (start .args .t1)) (start .args .t1 .entries) (own c) .extra .0
-  extended = extra-found (start .args .t1) (start .pre .1 .0) at reads
+  got : grantAt (entry .args .t3) at ≡ grantOf (sharingOf (entry .args .t1)) (entry .args .t1 .entries) own
+  got = grant-found (entry .args .t1) (entry .pre .1 .0) at reads
 
-  narrow : Narrow (sharingOf (start .args .t1)) (start .args .t1 .entries) (own c)
+  narrow : Narrow (sharingOf (entry .args .t1)) (entry .args .t1 .entries) own
   narrow =
-      let t = start .args .t1 in
-      all-at (Narrow (sharingOf t) (t .entries)) (t .entries) freeEntry (narrow-places t (start .pre .0 .0)) at reads
+      let t = entry .args .t1 in
+      all-at (Narrow (sharingOf t) (t .entries)) (t .entries) freeEntry (narrow-places t (entry .pre .0 .0)) at reads
 
 need-of-requires : tie.Need-need-of-requires Inv-loop μ-loop
-need-of-requires c κs = (let e = c .before .before .before in rw (pieced e, extended e) (narrow e))
+need-of-requires c κs = (let e = c .before .before in rw (got e) (narrow e))
 
-mul-streams : tie.Need-mul-streams Inv-loop μ-loop
-mul-streams c = search (needs, row-inside (c .before .before .before .before .before .before))
+abbrev row : tie.After-name Inv-loop μ-loop → tie.In-loop Inv-loop μ-loop
+row c = c .before .before .before .before .before .before
 
-array-write-streams : tie.Need-array-write-streams Inv-loop μ-loop
-array-write-streams c = search (needs, row-inside (c .before .before .before .before .before .before))
+mul-names : tie.Need-mul-names Inv-loop μ-loop
+mul-names c = search (needs, row-inside (row c))
+
+array-set-from-names : tie.Need-array-set-from-names Inv-loop μ-loop
+array-set-from-names c = search (needs, row-inside (row c))
 
 mul-lengths : tie.Need-mul-lengths Inv-loop μ-loop
-mul-lengths c = search (needs, row-inside (c .before .before .before .before .before .before))
+mul-lengths c = search (needs, row-inside (row c))
 
 array-write-lengths : tie.Need-array-write-lengths Inv-loop μ-loop
-array-write-lengths c = search (needs, row-inside (c .before .before .before .before .before .before))
+array-write-lengths c = search (needs, row-inside (row c))
 
 job-count-requires : tie.Need-job-count-requires Inv-loop μ-loop
 job-count-requires c κs = search needs
 
-mul-counts-2 : tie.Need-mul-counts-2 Inv-loop μ-loop
-mul-counts-2 c = search (needs, row-inside (c .before .before .before .before .before .before .before))
+mul-counts : tie.Need-mul-counts Inv-loop μ-loop
+mul-counts c = search (needs, row-inside (row (c .before)))
 
 array-write-counts : tie.Need-array-write-counts Inv-loop μ-loop
-array-write-counts c = search (needs, row-inside (c .before .before .before .before .before .before .before))
+array-write-counts c = search (needs, row-inside (row (c .before)))
 
 mul-each : tie.Need-mul-each Inv-loop μ-loop
-mul-each c = search (needs, row-inside (c .before .before .before .before .before .before .before))
+mul-each c = search (needs, row-inside (row (c .before)))
 
 array-write-each : tie.Need-array-write-each Inv-loop μ-loop
-array-write-each c = search (needs, row-inside (c .before .before .before .before .before .before .before))
+array-write-each c = search (needs, row-inside (row (c .before)))
 
 add-k : tie.Need-add-k Inv-loop μ-loop
 add-k c = search needs
@@ -159,36 +162,37 @@ loop-less c = search needs
 
 loop-again : tie.Need-loop-again Inv-loop μ-loop
 loop-again c =
-    let j = c .before .before .before .before in
+    let n = c .before .before in
+    let j = n .before .before in
     let e = j .before in
-    let l = e .before .before .before in
-    let o = l .before .before in
-    let need = c .before .need-of .ensures ∙ ap₂ (λ a b. needBy (granted a b) (own e)) (pieced e) (extended e) in
-    making-more (o .before .before .before .args .t1) (o .ordered .result) (listed o) (l .loop .inv) (e .before .before .loop-test .taken)
+    let l = turn e in
+    let o = by l in
+    let need = n .need-of .ensures ∙ ap (λ g. needBy g (own e)) (got e) in
+    making-more (entry e .args .t1) (o .ordered .result) (listed o) (l .loop .inv) (e .before .before .loop-test .taken)
     refl (j .job-length .ensures) (c .job-count .ensures) need
 
 -- the rows are the table's
-made : (c : tie.After-loop Inv-loop μ-loop) → (let l = c .before .loop in let o = c .before .before .before in
-    Made (o .before .before .before .args .t1) (o .ordered .result) (l .streams) (l .lengths) (l .counts) (l .each))
+made : (c : tie.After-loop Inv-loop μ-loop) → (let l = c .before .loop in let o = by (c .before) in
+    Made (start o .args .t1) (o .ordered .result) (l .names) (l .lengths) (l .counts) (l .each))
 made c =
-    let o = c .before .before .before in
-    making-ends (o .before .before .before .args .t1) (o .ordered .result) (listed o) (c .before .loop .inv) (c .loop-test .left)
+    let o = by (c .before) in
+    making-ends (start o .args .t1) (o .ordered .result) (listed o) (c .before .loop .inv) (c .loop-test .left)
 
 -- and so is their plan
 planned : (c : tie.After-loop Inv-loop μ-loop) → (let l = c .before .loop in
-    let t = c .before .before .before .before .before .before .args .t1 in
+    let t = start (by (c .before)) .args .t1 in
     let nss = needRows (l .counts) (l .each) in
-    Rows (t .interval .0) (l .streams) (l .lengths) nss × (rowPlan (t .interval .0) (l .streams) (l .lengths) nss ≡ planOf t))
+    Rows (slotsIn (t .frame)) (l .names) (l .lengths) nss × (rowPlan (slotsIn (t .frame)) (l .names) (l .lengths) nss ≡ planOf t))
 planned c =
-    let o = c .before .before .before in
-    let s = o .before .before .before in
+    let o = by (c .before) in
+    let s = start o in
     plan-made (s .args .t1) (s .pre .0 .0) (s .pre .0 .1 .used) (order o) (made c)
 
 write-plan-requires : tie.Need-write-plan-requires Inv-loop μ-loop
 write-plan-requires c κs =
-    let l = c .before .before .before .before .before in
-    let o = l .before .before .before in
-    let s = o .before .before .before in
+    let l = c .before .before .before .before in
+    let o = by (l .before) in
+    let s = start o in
     let t = s .args .t1 in
     let w = s .pre .0 .0 in
     let u = s .pre .0 .1 .used in
@@ -200,11 +204,11 @@ same-length c = search needs
 returns : tie.Need-returns Inv-loop μ-loop
 returns c =
     let p = c .before .before in
-    let l = p .before .before .before .before .before .before in
-    let s = l .before .before .before .before .before .before in
+    let l = p .before .before .before .before .before in
+    let s = start (by (l .before)) in
     let plan = planned l .1 in
     let e = p .write-plan .ensures in
-    (e .0 ∙ ap length plan, e .1 .1 ∙ ap (λ rs. wordsOf rs ++ drop (4 * p .write-plan .result) (now (s .args .plan))) plan)
+    (e .0 ∙ ap length plan, e .1 .1 ∙ ap (λ rs. wordsOf rs ++ drop (recordWords * p .write-plan .result) (now (s .args .plan))) plan)
 
 pub write-jobs-spec : {M : Type 1} → statement M
 write-jobs-spec =
@@ -213,23 +217,22 @@ write-jobs-spec =
     Inv-loop
     μ-loop
     ordered-requires
+    free-entry-requires
     loop-holds
     mul-i
     element-copy-out-i
     mul-e
     element-copy-out-e
     job-length-requires
-    mul-counts
-    element-copy-out-counts
-    mul-t23
-    element-copy-out-t36
+    mul-g
+    element-copy-out-g
     need-of-requires
-    mul-streams
-    array-write-streams
+    mul-names
+    array-set-from-names
     mul-lengths
     array-write-lengths
     job-count-requires
-    mul-counts-2
+    mul-counts
     array-write-counts
     mul-each
     array-write-each

@@ -7,6 +7,7 @@ use native.Mathlib.Omega.{arith}
 use lib.ListN.{length, length-map}
 use borrow.Author.Needs.{needs}
 use Rattle.base_lists.specs.Spare.{Filling, filling-none, filling-more, filling-all}
+use Rattle.spec_model.specs.Tables.{places}
 use Rattle.beacon_plan.specs.Heads.{firstLeft, head-at, heads-spare}
 use Rattle.beacon_plan.proofs.fill_heads.Statement.{statement}
 use Rattle.beacon_plan.proofs.fill_heads.Tie as tie
@@ -18,7 +19,7 @@ abbrev μ-loop : tie.MeasureT-loop
 μ-loop heads₀ rows needs i₀ heads i = rows - i
 
 -- how many heads there are
-heads-sized : (z : tie.Start Inv-loop μ-loop) → length (map firstLeft (z .args .needs .now)) ≡ 32
+heads-sized : (z : tie.Start Inv-loop μ-loop) → length (map firstLeft (z .args .needs .now)) ≡ places
 heads-sized z = length-map (z .args .needs .now) firstLeft ∙ z .pre .1 .0
 
 loop-holds : tie.Need-loop-holds Inv-loop μ-loop

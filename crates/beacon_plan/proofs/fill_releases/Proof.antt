@@ -7,6 +7,8 @@ use lib.ListN.{length}
 use borrow.Author.Needs.{needs}
 use Rattle.base_lists.specs.All.{all-at}
 use Rattle.base_lists.specs.Spare.{Filling, filling-none, filling-more, filling-all}
+use Rattle.spec_model.specs.Tables.{places}
+use Rattle.law_model.specs.Frames.{mostSlots}
 use Rattle.beacon_plan.specs.Places.{noRelease, releasesOf}
 use Rattle.beacon_plan.specs.Kept.{length-releases, release-at, releases-spare}
 use Rattle.beacon_plan.proofs.fill_releases.Statement.{statement}
@@ -19,7 +21,7 @@ abbrev μ-loop : tie.MeasureT-loop
 μ-loop releases₀ rows lengths heads i₀ releases i = rows - i
 
 -- how many releases there are
-releases-sized : (z : tie.Start Inv-loop μ-loop) → length (releasesOf (z .args .lengths .now) (z .args .heads .now)) ≡ 32
+releases-sized : (z : tie.Start Inv-loop μ-loop) → length (releasesOf (z .args .lengths .now) (z .args .heads .now)) ≡ places
 releases-sized z = length-releases (z .args .lengths .now) (z .args .heads .now) (z .pre .0 .1 .0 ∙ sym (z .pre .1 .0)) ∙ z .pre .1 .0
 
 loop-holds : tie.Need-loop-holds Inv-loop μ-loop
@@ -28,24 +30,24 @@ loop-holds c =
     subst (λ rs. Filling noRelease (releasesOf (a .lengths .now) (a .heads .now)) (a .rows) rs 0) (sym (c .pre .0 .0))
     (filling-none (releases-sized c))
 
+mul-t8 : tie.Need-mul-t8 Inv-loop μ-loop
+mul-t8 c = search needs
+
+element-copy-out-t11 : tie.Need-element-copy-out-t11 Inv-loop μ-loop
+element-copy-out-t11 c = search needs
+
 mul-release-of : tie.Need-mul-release-of Inv-loop μ-loop
 mul-release-of c = search needs
 
 element-copy-out-release-of : tie.Need-element-copy-out-release-of Inv-loop μ-loop
 element-copy-out-release-of c = search needs
 
-mul-release-of-2 : tie.Need-mul-release-of-2 Inv-loop μ-loop
-mul-release-of-2 c = search needs
-
-element-copy-out-release-of-2 : tie.Need-element-copy-out-release-of-2 Inv-loop μ-loop
-element-copy-out-release-of-2 c = search needs
-
 release-of-requires : tie.Need-release-of-requires Inv-loop μ-loop
 release-of-requires c κs =
     let l = c .before .before .before in
     let s = l .before in
     let h : l .loop .i < length (s .args .lengths .now) = omega (arith, s .pre .0 .1 .0) in
-    all-at (λ T. T ≤ 1024000) (s .args .lengths .now) 0 (s .pre .0 .1 .1) (l .loop .i) h
+    all-at (λ T. T ≤ mostSlots) (s .args .lengths .now) 0 (s .pre .0 .1 .1) (l .loop .i) h
 
 mul-releases : tie.Need-mul-releases Inv-loop μ-loop
 mul-releases c = search needs
@@ -82,10 +84,10 @@ fill-releases-spec =
     Inv-loop
     μ-loop
     loop-holds
+    mul-t8
+    element-copy-out-t11
     mul-release-of
     element-copy-out-release-of
-    mul-release-of-2
-    element-copy-out-release-of-2
     release-of-requires
     mul-releases
     element-write-releases

@@ -12,7 +12,7 @@ use Rattle.beacon_plan.proofs.fill_row.Statement.{statement}
 use Rattle.beacon_plan.proofs.fill_row.Tie as tie
 
 abbrev Inv-loop : tie.InvT-loop
-Inv-loop needs₀ k count need n j₀ needs j = (j ≤ count) × (needs ≡ set needs₀ k (needsRow j need))
+Inv-loop needs₀ k count need n j₀ needs j = (j ≤ count) × (needs ≡ set needs₀ k (needsRow j (need .0)))
 
 abbrev μ-loop : tie.MeasureT-loop
 μ-loop needs₀ k count need n j₀ needs j = count - j
@@ -47,8 +47,8 @@ loop-again c =
     let a = z .args in
     let h : a .k < length (a .needs .now) = omega (arith, z .pre .0) in (
       omega arith,
-      ap (λ nss. set nss (a .k) (set (getD nss (a .k) []) (l .loop .j) (a .need))) (l .loop .inv .1)
-          ∙ fill-more (a .needs .now) (a .k) (l .loop .j) (a .need) h (omega (arith, c .loop-test .taken, z .pre .0)),
+      ap (λ nss. set nss (a .k) (set (getD nss (a .k) []) (l .loop .j) (a .need .0))) (l .loop .inv .1)
+          ∙ fill-more (a .needs .now) (a .k) (l .loop .j) (a .need .0) h (omega (arith, c .loop-test .taken, z .pre .0)),
     )
 
 returns : tie.Need-returns Inv-loop μ-loop
@@ -56,7 +56,7 @@ returns c =
     let l = c .before in
     let a = l .before .args in
     let j : l .loop .j ≡ a .count = omega arith in
-    l .loop .inv .1 ∙ ap (λ m. set (a .needs .now) (a .k) (needsRow m (a .need))) j
+    l .loop .inv .1 ∙ ap (λ m. set (a .needs .now) (a .k) (needsRow m (a .need .0))) j
 
 pub fill-row-spec : {M : Type 1} → statement M
 fill-row-spec =

@@ -8,6 +8,7 @@ use lib.ListN.{length, replicate}
 use borrow.Author.Needs.{needs}
 use Rattle.base_lists.specs.All.{all-at}
 use Rattle.base_lists.specs.Spare.{Filling, filling-none, filling-more, filling-all}
+use Rattle.spec_model.specs.Tables.{places}
 use Rattle.beacon_plan.specs.Needs.{needRows, needs-at, filling-next}
 use Rattle.beacon_plan.proofs.fill_rows.Statement.{statement}
 use Rattle.beacon_plan.proofs.fill_rows.Tie as tie
@@ -26,7 +27,7 @@ loop-holds c =
 
 -- a row that has a count and a need
 inside : (c : tie.In-loop Inv-loop μ-loop) → let i = c .before .loop .i in let a = c .before .before .args in
-    (i < 32) × ((i < length (a .counts .now)) × (i < length (a .each .now)))
+    (i < places) × ((i < length (a .counts .now)) × (i < length (a .each .now)))
 inside c =
     let w = c .before .before .pre in
     omega (arith, c .loop-test .taken, w .1 .1 .0, w .0 .1 .counts-sized, w .0 .1 .each-sized)
@@ -37,11 +38,11 @@ mul-fill-row c = search (needs, inside (c .before))
 element-copy-out-fill-row : tie.Need-element-copy-out-fill-row Inv-loop μ-loop
 element-copy-out-fill-row c = search (needs, inside (c .before))
 
-mul-fill-row-2 : tie.Need-mul-fill-row-2 Inv-loop μ-loop
-mul-fill-row-2 c = search (needs, inside (c .before .before))
+mul-t13 : tie.Need-mul-t13 Inv-loop μ-loop
+mul-t13 c = search (needs, inside (c .before .before))
 
-element-copy-out-fill-row-2 : tie.Need-element-copy-out-fill-row-2 Inv-loop μ-loop
-element-copy-out-fill-row-2 c = search (needs, inside (c .before .before))
+element-copy-out-t16 : tie.Need-element-copy-out-t16 Inv-loop μ-loop
+element-copy-out-t16 c = search (needs, inside (c .before .before))
 
 fill-row-requires : tie.Need-fill-row-requires Inv-loop μ-loop
 fill-row-requires c κs =
@@ -85,8 +86,8 @@ fill-rows-spec =
     loop-holds
     mul-fill-row
     element-copy-out-fill-row
-    mul-fill-row-2
-    element-copy-out-fill-row-2
+    mul-t13
+    element-copy-out-t16
     fill-row-requires
     add-i
     loop-less

@@ -4,7 +4,7 @@ use Rattle.beacon_plan.proofs.next_after.Statement.{statement}
 use Rattle.beacon_plan.proofs.next_after.Tie as tie
 
 returns : tie.Need-returns
-returns c = c .before .pre .0 .1 .1 .1 (c .if1 .taken)
+returns c = c .before .before .before .pre .1 .0 (c .if1 .taken)
 
 next-release-requires : tie.Need-next-release-requires
 next-release-requires c κs = search needs

@@ -5,7 +5,7 @@ use Rattle.beacon_plan.proofs.put_run.Statement.{statement}
 use Rattle.beacon_plan.proofs.put_run.Tie as tie
 
 returns : tie.Need-returns
-returns c = put-none (c .before .before .before .args .pen) _ (c .if1 .taken)
+returns c = put-none (c .before .before .before .before .args .pen) _ (c .if1 .taken)
 
 write-record-requires : tie.Need-write-record-requires
 write-record-requires c κs = search needs
@@ -19,7 +19,7 @@ same-length c = search needs
 returns-2 : tie.Need-returns-2
 returns-2 c =
     let w = c .before .before in
-    let a = w .before .before .before .before .before .args in
+    let a = w .before .before .before .before .before .before .args in
     put-one (a .pen) (a .plan .now) _ (w .before .before .if1 .left) (w .write-record .ensures)
 
 pub put-run-spec : {M : Type 1} → statement M

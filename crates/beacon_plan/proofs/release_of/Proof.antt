@@ -12,17 +12,18 @@ returns : tie.Need-returns
 unfolding releaseOf
 returns c = rw (le-leb 16 _ (c .if1 .taken))
 
-cast-result : tie.Need-cast-result
-cast-result c = search needs
+cast-t4 : tie.Need-cast-t4
+cast-t4 c = search needs
 
-mul-result : tie.Need-mul-result
-mul-result c =
-    let l : c .before .args .job ≤ 15 = omega (arith, c .if1 .left) in
-    record { fits = omega (arith, mul-le-mul l (c .before .pre)) }
+mul-t5 : tie.Need-mul-t5
+mul-t5 c =
+    let e = c .before in
+    let l : e .before .args .job ≤ 15 = omega (arith, e .if1 .left) in
+    record { fits = omega (arith, mul-le-mul l (e .before .pre)) }
 
 returns-2 : tie.Need-returns-2
 unfolding releaseOf
-returns-2 c = rw (lt-leb 16 _ (c .if1 .left))
+returns-2 c = rw (lt-leb 16 _ (c .before .if1 .left))
 
 pub release-of-spec : {M : Type 1} → statement M
-release-of-spec = tie.close (tie.spec returns cast-result mul-result returns-2)
+release-of-spec = tie.close (tie.spec returns cast-t4 mul-t5 returns-2)

@@ -9,6 +9,7 @@ use denote.Ref.{now}
 use Rattle.base_lists.specs.Tests.{cond-zero}
 use Rattle.base_lists.specs.Loops.{summed, summed-more}
 use Rattle.base_lists.specs.Spare.{spare-sum}
+use Rattle.table_queue.specs.Queues.{largest32}
 use Rattle.table_queue.specs.Zips.{zip, length-zip, zip-at, zip-spare}
 use borrow.Author.Needs.{needs}
 use Rattle.beacon_share.proofs.owed_below.Statement.{statement}
@@ -20,7 +21,7 @@ lower own k o = cond (ltb k own) o 0
 
 abbrev Inv-loop : tie.InvT-loop
 Inv-loop ranks owed used own all₀ i₀ all i =
-    (i ≤ used) × (all ≡ summed (λ v. v) i (zip (lower own) ranks owed)) × (all ≤ 4294967295 * i)
+    (i ≤ used) × (all ≡ summed (λ v. v) i (zip (lower own) ranks owed)) × (all ≤ largest32 * i)
 
 abbrev μ-loop : tie.MeasureT-loop
 μ-loop ranks owed used own all₀ i₀ all i = used - i
@@ -28,17 +29,17 @@ abbrev μ-loop : tie.MeasureT-loop
 loop-holds : tie.Need-loop-holds Inv-loop μ-loop
 loop-holds c = (omega arith, refl, omega arith)
 
+mul-t9 : tie.Need-mul-t9 Inv-loop μ-loop
+mul-t9 c = search needs
+
+shared-slice-read-t11 : tie.Need-shared-slice-read-t11 Inv-loop μ-loop
+shared-slice-read-t11 c = search needs
+
 mul-owed-if-lower : tie.Need-mul-owed-if-lower Inv-loop μ-loop
 mul-owed-if-lower c = search needs
 
 shared-slice-read-owed-if-lower : tie.Need-shared-slice-read-owed-if-lower Inv-loop μ-loop
 shared-slice-read-owed-if-lower c = search needs
-
-mul-owed-if-lower-2 : tie.Need-mul-owed-if-lower-2 Inv-loop μ-loop
-mul-owed-if-lower-2 c = search needs
-
-shared-slice-read-owed-if-lower-2 : tie.Need-shared-slice-read-owed-if-lower-2 Inv-loop μ-loop
-shared-slice-read-owed-if-lower-2 c = search needs
 
 owed-if-lower-requires : tie.Need-owed-if-lower-requires Inv-loop μ-loop
 owed-if-lower-requires c κs = search needs
@@ -57,7 +58,8 @@ loop-less c = search needs
 
 loop-again : tie.Need-loop-again Inv-loop μ-loop
 loop-again c =
-    let l = c .before .before .before .before in
+    let o = c .before in
+    let l = o .before .before .before .before in
     let s = l .before .before .before in
     let a = s .args in
     let h = s .pre .ranked in
@@ -67,7 +69,7 @@ loop-again c =
       omega arith,
       summed-more (λ v. v) (zip f (now (a .ranks)) (now (a .owed))) (l .loop .i) 0
           (omega (arith, length-zip f (now (a .ranks)) (now (a .owed)))) (l .loop .inv .1)
-          (c .owed-if-lower .ensures ∙ sym (zip-at f (now (a .ranks)) (now (a .owed)) (l .loop .i) 0 0 0 (omega arith) (omega arith))),
+          (o .owed-if-lower .ensures ∙ sym (zip-at f (now (a .ranks)) (now (a .owed)) (l .loop .i) 0 0 0 (omega arith) (omega arith))),
       omega arith,
     )
 
@@ -90,10 +92,10 @@ owed-below-spec =
     Inv-loop
     μ-loop
     loop-holds
+    mul-t9
+    shared-slice-read-t11
     mul-owed-if-lower
     shared-slice-read-owed-if-lower
-    mul-owed-if-lower-2
-    shared-slice-read-owed-if-lower-2
     owed-if-lower-requires
     cast-all
     add-all

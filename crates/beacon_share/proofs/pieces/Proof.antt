@@ -5,6 +5,7 @@ use Prim.Native.Nat.{ℕ, _-_}
 use native.Mathlib.Omega.{arith}
 use lib.ListN.{length}
 use Rattle.base_lists.specs.Spare.{Filling, filling-none, filling-more, filling-all}
+use Rattle.spec_model.specs.Tables.{places}
 use Rattle.table_queue.specs.Zips.{length-zip, zip-at, zip-spare}
 use Rattle.table_queue.specs.Queues.{pieceOf, piecesOf}
 use Rattle.table_queue.proofs.Known.{queue-32}
@@ -23,7 +24,7 @@ abbrev own : (z : tie.Start Inv-loop μ-loop) (rank owed : ℕ) → ℕ
 own z = pieceOf (z .args .capacity .0) (z .args .q .ranks) (z .args .q .owed)
 
 pieces-sized : (z : tie.Start Inv-loop μ-loop)
-    → length (piecesOf (z .args .capacity .0) (z .args .q .ranks) (z .args .q .owed)) ≡ 32
+    → length (piecesOf (z .args .capacity .0) (z .args .q .ranks) (z .args .q .owed)) ≡ places
 pieces-sized z =
     let q = z .args .q in
     omega (arith, length-zip (own z) (q .ranks) (q .owed), queue-32 q (z .good .0))

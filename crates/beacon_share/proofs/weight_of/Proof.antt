@@ -4,6 +4,9 @@ use Rattle.spec_model.proofs.Products.{product-fits}
 use Rattle.beacon_share.proofs.weight_of.Statement.{statement}
 use Rattle.beacon_share.proofs.weight_of.Tie as tie
 
+cast-result : tie.Need-cast-result
+cast-result c = search needs
+
 mul-result : tie.Need-mul-result
 mul-result c = record { fits = product-fits _ _ (search needs) (search needs) }
 
@@ -11,4 +14,4 @@ returns : tie.Need-returns
 returns c = search needs
 
 pub weight-of-spec : {M : Type 1} → statement M
-weight-of-spec = tie.close (tie.spec mul-result returns)
+weight-of-spec = tie.close (tie.spec cast-result mul-result returns)

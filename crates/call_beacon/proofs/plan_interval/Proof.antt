@@ -6,14 +6,14 @@ use lib.Dec.{ltb}
 use lib.ListN.{length, drop}
 use denote.Ref.{now}
 use borrow.Author.Tests.{lt-ltb, le-ltb}
-use Rattle.spec_rules.specs.Calls.{recordWords, mostRecords, wordsOf, planOf, beacon}
-use Rattle.law_steps.specs.Places.{formed-tidy}
+use Rattle.spec_model.specs.Numbers.{beaconNumber}
+use Rattle.spec_rules.specs.Calls.{planOf, beacon}
+use Rattle.spec_rules.specs.Records.{recordWords, wordsOf, planWords}
 use Rattle.table_queue.specs.Queues.{Used, queued-bounded}
 use Rattle.beacon_share.specs.Shares.{sharesOf, shares-right}
-use Rattle.spec_model.specs.Numbers.{beaconNumber}
 use Rattle.call_beacon.specs.Moves.{stays-put, moves-on, none-beacon}
-use borrow.Author.Needs.{needs}
 use Rattle.call_beacon.proofs.plan_interval.Statement.{statement}
+use borrow.Author.Needs.{needs}
 use Rattle.call_beacon.proofs.plan_interval.Tie as tie
 
 unplanned-requires : tie.Need-unplanned-requires
@@ -24,7 +24,7 @@ unfolding beacon
 returns c =
     let u = c .unplanned .ensures in
     let ws = now (c .before .before .before .args .plan) in
-    let q : ltb (length ws) (recordWords * mostRecords) ≡ true = lt-ltb _ _ (c .before .if1 .taken) in
+    let q : ltb (length ws) planWords ≡ true = lt-ltb _ _ (c .before .if1 .taken) in
     (rw q (ap beaconNumber (u .0)), (rw q (u .1 .0), (rw q, stays-put (u .1 .1) (rw q))))
 
 queue-of-requires : tie.Need-queue-of-requires
@@ -44,20 +44,20 @@ returns-2 c =
 
 shares-of-requires : tie.Need-shares-of-requires
 shares-of-requires c κs =
-    let q = c .before .before in queued-bounded (formed-tidy (q .before .before .before .pre)) (q .queue-of .ensures)
+    let q = c .before .before in queued-bounded (q .before .before .before .pre .tidy) (q .queue-of .ensures)
 
 -- the shares by the queue are the table's
 shared : (s : tie.After-shares-of) → s .shares-of .result ≡ sharesOf (s .before .before .before .before .before .before .args .t)
 shared s =
     let q = s .before .before .before in
     let z = q .before .before .before in
-    s .shares-of .ensures ∙ shares-right (z .args .t) (formed-tidy (z .pre)) (q .queue-of .ensures)
+    s .shares-of .ensures ∙ shares-right (z .args .t) (z .pre .tidy) (q .queue-of .ensures)
 
 write-jobs-requires : tie.Need-write-jobs-requires
 write-jobs-requires c κs =
     let s = c .before in
     let q = s .before .before .before in
-    ((formed-tidy (q .before .before .before .pre), q .queue-of .ensures), (shared s, search needs))
+    ((q .before .before .before .pre .tidy, q .queue-of .ensures), (shared s, search needs))
 
 same-length : tie.Need-same-length
 same-length c = search needs
@@ -71,8 +71,8 @@ returns-3 c =
     let a = q .before .before .before .args in
     let e = j .write-jobs .ensures in
     let long = le-ltb _ _ (q .before .if1 .left) in
-    let words = e .1 ∙ ap (λ n. wordsOf (planOf (a .t)) ++ drop (4 * n) (now (a .plan))) (e .0) in
-    let held = moves-on (s .before .if2 .left) (formed-tidy (q .before .before .before .pre), q .queue-of .ensures .used) in (
+    let words = e .1 ∙ ap (λ n. wordsOf (planOf (a .t)) ++ drop (recordWords * n) (now (a .plan))) (e .0) in
+    let held = moves-on (s .before .if2 .left) (q .before .before .before .pre .tidy, q .queue-of .ensures .used) in (
       rw long,
       (
         rw long (e .0),

@@ -1,5 +1,5 @@
 use mathlib.Core.Path.{ap, _∙_}
-use Rattle.spec_rules.specs.Tables.{putIn}
+use Rattle.spec_model.specs.Tables.{putIn}
 use borrow.Author.Needs.{needs}
 use Rattle.call_held.proofs.withdraw.Statement.{statement}
 use Rattle.call_held.proofs.withdraw.Tie as tie

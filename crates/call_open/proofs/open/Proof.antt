@@ -1,7 +1,7 @@
 use mathlib.Core.Path.{_≡_, sym, _∙_}
 use borrow.Author.Tests.{eq-eqb, ne-eqb}
 use borrow.Author.Needs.{needs}
-use Rattle.spec_rules.specs.Calls.{openAnswer}
+use Rattle.spec_rules.specs.Settings.{openAnswer}
 use Rattle.call_open.proofs.open.Statement.{statement}
 use Rattle.call_open.proofs.open.Tie as tie
 
@@ -12,16 +12,16 @@ open-number-requires : tie.Need-open-number-requires
 open-number-requires c κs = search needs
 
 -- the number that is looked at
-number : (c : tie.After-open-number) → c .open-number .result ≡ openAnswer (c .before .before .args .units)
+number : (c : tie.After-open-number) → c .open-number .result ≡ openAnswer (c .before .before .args .s)
 number c = c .open-number .ensures ∙ c .before .open-answer .ensures
 
-empty-table-requires : tie.Need-empty-table-requires
-empty-table-requires c κs = search needs
+no-table-requires : tie.Need-no-table-requires
+no-table-requires c κs = search needs
 
 returns : tie.Need-returns
 returns c =
     let n = c .before .before in
-    (n .before .open-answer .ensures, rw (ne-eqb _ _ (λ z. c .before .if1 .taken (number n ∙ z))) (c .empty-table .ensures))
+    (n .before .open-answer .ensures, rw (ne-eqb _ _ (λ z. c .before .if1 .taken (number n ∙ z))) (c .no-table .ensures))
 
 opened-table-requires : tie.Need-opened-table-requires
 opened-table-requires c κs = sym (number (c .before)) ∙ c .if1 .left
@@ -37,7 +37,7 @@ open-spec =
     (tie.spec
     open-answer-requires
     open-number-requires
-    empty-table-requires
+    no-table-requires
     returns
     opened-table-requires
     returns-2)

@@ -1,7 +1,7 @@
 use mathlib.Core.Path.{sym, _∙_}
 use borrow.Author.Needs.{needs}
 use Rattle.spec_model.specs.Requests.{refusal}
-use Rattle.spec_rules.specs.Calls.{openAnswer}
+use Rattle.spec_rules.specs.Settings.{openAnswer}
 use Rattle.call_open.proofs.open_answer.Statement.{statement}
 use Rattle.call_open.proofs.open_answer.Tie as tie
 

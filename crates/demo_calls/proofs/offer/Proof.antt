@@ -9,14 +9,14 @@ use Rattle.demo_calls.proofs.offer.Tie as tie
 offer-requires : tie.Need-offer-requires
 offer-requires c κs = search needs
 
-slice-aggregate-stream-row : tie.Need-slice-aggregate-stream-row
-slice-aggregate-stream-row c = search needs
+slice-aggregate-name-row : tie.Need-slice-aggregate-name-row
+slice-aggregate-name-row c = search needs
 
 offer-number-requires : tie.Need-offer-number-requires
 offer-number-requires c κs = search needs
 
-stream-row-requires : tie.Need-stream-row-requires
-stream-row-requires c κs = search needs
+name-row-requires : tie.Need-name-row-requires
+name-row-requires c κs = search needs
 
 returns : tie.Need-returns
 returns c =
@@ -29,7 +29,7 @@ offer-spec =
     tie.close
     (tie.spec
     offer-requires
-    slice-aggregate-stream-row
+    slice-aggregate-name-row
     offer-number-requires
-    stream-row-requires
+    name-row-requires
     returns)

@@ -3,7 +3,7 @@ use mathlib.Core.Path.{ap, _∙_}
 use Prim.Native.Nat.{_/_}
 use lib.ListN.{length}
 use borrow.Author.Needs.{needs}
-use Rattle.spec_rules.specs.Calls.{recordWords}
+use Rattle.spec_rules.specs.Records.{recordWords}
 use Rattle.demo_calls.proofs.window.Statement.{statement}
 use Rattle.demo_calls.proofs.window.Tie as tie
 

@@ -11,7 +11,7 @@ abbrev Inv-loop : tie.InvT-loop
 Inv-loop count plan₀ table₀ i₀ plan table i = (length plan ≡ length plan₀) × WellFormed table
 
 abbrev μ-loop : tie.MeasureT-loop
-μ-loop count plan₀ table₀ i₀ plan table i = count - i
+μ-loop count plan₀ table₀ i₀ plan table i = count .0 - i
 
 loop-holds : tie.Need-loop-holds Inv-loop μ-loop
 loop-holds c = search needs

@@ -1,14 +1,19 @@
 -- The words are as they were lent, and so are those after the plan's. Assumes nothing.
-use Prim.Native.Nat.{_-_}
+use Prim.Native.Nat.{ℕ, _*_, _-_}
 use mathlib.Core.Path.{ap, sym, subst, _∙_}
 use native.Mathlib.Omega.{arith}
 use lib.ListN.{length, drop}
 use denote.Ref.{now}
 use borrow.Author.Needs.{needs}
+use Rattle.spec_rules.specs.Records.{recordWords}
 use Rattle.demo_expected.specs.Said.{plan-told, line}
 use Rattle.demo_expected.specs.Words.{plan-later, Each, each-take, each-drop}
 use Rattle.demo_expected.proofs.case_10.Statement.{statement}
 use Rattle.demo_expected.proofs.case_10.Tie as tie
+
+-- the words of the plan
+abbrev written : ℕ
+written = recordWords * 5
 
 offers-of-case-1-requires : tie.Need-offers-of-case-1-requires
 offers-of-case-1-requires c κs = search needs
@@ -44,8 +49,8 @@ expect-each-requires-2 c κs =
     let s = r .before .before .before .before in
     let l = b .beacon-of-case-1 .last .1 .0 in
     let after = plan-later _ (plan-told (line 4) .0) (r .refused-beacon .last .1 .0) (b .beacon-of-case-1 .ensures .1 .1) in
-    let e = after ∙ ap (drop 20) (r .refused-beacon .ensures .1 .1) in
-    each-take (length l - 20) (drop 20 l) (subst (Each 77777) (sym e) (each-drop 20 (now (s .args .plan)) (s .pre .1)))
+    let e = after ∙ ap (drop written) (r .refused-beacon .ensures .1 .1) in
+    each-take (length l - written) (drop written l) (subst (Each 77777) (sym e) (each-drop written (now (s .args .plan)) (s .pre .1)))
 
 same-length : tie.Need-same-length
 same-length c = search needs

@@ -3,6 +3,7 @@ use Prim.Native.Nat.{_*_, _≤_, _-_}
 use native.Mathlib.Omega.{arith}
 use lib.ListN.{length, drop, length-drop}
 use lib.Seq.{take-all}
+use Rattle.spec_rules.specs.Records.{recordWords}
 use Rattle.demo_expected.proofs.expect_records.Statement.{statement}
 use Rattle.demo_expected.proofs.expect_records.Tie as tie
 
@@ -41,7 +42,7 @@ expect-words-requires c κs =
     let s = c .before .before .before .before .before .before in
     let i = c .before .before .before .before .loop .i in
     let ws = s .args .plan .now in
-    rw (take-all (length ws - 4 * i) (drop (4 * i) ws) (omega (arith, length-drop (4 * i) ws))) (s .pre .row i (omega arith))
+    rw (take-all (length ws - recordWords * i) (drop (recordWords * i) ws) (omega (arith, length-drop (recordWords * i) ws))) (s .pre .row i (omega arith))
 
 add-i : tie.Need-add-i Inv-loop μ-loop
 add-i c = omega arith

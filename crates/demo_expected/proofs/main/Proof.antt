@@ -2,6 +2,7 @@
 use mathlib.Core.Path.{refl}
 use lib.ListN.{getD-replicate}
 use borrow.Author.Needs.{needs}
+use Rattle.spec_rules.specs.Records.{planWords}
 use Rattle.demo_expected.proofs.main.Statement.{statement}
 use Rattle.demo_expected.proofs.main.Tie as tie
 
@@ -45,7 +46,7 @@ slice-aggregate-case-10 : tie.Need-slice-aggregate-case-10
 slice-aggregate-case-10 c = search needs
 
 case-10-requires : tie.Need-case-10-requires
-case-10-requires c κs = (refl, λ i h. getD-replicate 4096 i 77777 0 h)
+case-10-requires c κs = (refl, λ i h. getD-replicate planWords i 77777 0 h)
 
 slice-aggregate-case-10-empty : tie.Need-slice-aggregate-case-10-empty
 slice-aggregate-case-10-empty c = search needs

@@ -2,7 +2,7 @@
 use mathlib.Core.Path.{_∙_}
 use borrow.Author.Needs.{needs}
 use borrow.Author.Tests.{eq-eqb}
-use Rattle.demo_expected.specs.Said.{open-formed}
+use Rattle.law_ahead.specs.Formed.{opened-formed}
 use Rattle.demo_expected.proofs.open.Statement.{statement}
 use Rattle.demo_expected.proofs.open.Tie as tie
 
@@ -20,7 +20,7 @@ returns c =
     let o = c .before .before .before in
     let h = o .before .pre in
     let e = rw h at (o .«open» .ensures .1) in
-    (e, rw e (open-formed _ h))
+    (e, rw e (opened-formed _ h))
 
 pub open-spec : {M : Type 1} → statement M
 open-spec = tie.close (tie.spec open-requires open-number-requires expect-requires returns)

@@ -1,7 +1,7 @@
 use mathlib.Core.Path.{sym, _∙_}
 use Rattle.law_steps.specs.RequestLaws.{fields-fraction, fields-whole, fields-transfer, fields-unknown}
-use borrow.Author.Needs.{needs}
 use Rattle.kind_checks.proofs.check_fields.Statement.{statement}
+use borrow.Author.Needs.{needs}
 use Rattle.kind_checks.proofs.check_fields.Tie as tie
 
 check-requires : tie.Need-check-requires

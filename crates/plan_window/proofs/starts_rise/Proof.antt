@@ -29,7 +29,7 @@ start-of-requires-2 c κs = omega arith
 
 returns : tie.Need-returns Inv-loop μ-loop
 returns c =
-    let b = c .before in
+    let b = c .before .before .before in
     let w = b .before .before .before .loop .inv .1 in
     rises-broken _ _ _ w (omega arith) (b .start-of2 .ensures) (b .before .start-of .ensures) (c .if1 .taken)
 
@@ -41,7 +41,7 @@ loop-less c = omega arith
 
 loop-again : tie.Need-loop-again Inv-loop μ-loop
 loop-again c =
-    let b = c .before in
+    let b = c .before .before .before in
     let w = b .before .before .before .loop .inv .1 in
     (omega arith, rises-on _ _ _ w (omega arith) (b .start-of2 .ensures) (b .before .start-of .ensures) (c .if1 .left))
 

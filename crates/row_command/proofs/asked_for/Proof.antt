@@ -1,40 +1,27 @@
 -- `row_command::asked_for` meets its contract, verb by verb. Assumes nothing.
+use mathlib.Core.Path.{ap}
 use borrow.Author.Needs.{needs}
+use Rattle.spec_shelf.specs.declared.Command.the-variants.{Open, Offer, Withdraw}
 use Rattle.row_command.proofs.asked_for.Statement.{statement}
 use Rattle.row_command.proofs.asked_for.Tie as tie
 
 enum-told : tie.Need-enum-told
 enum-told c = search needs
 
-array-read-t7 : tie.Need-array-read-t7
-array-read-t7 c = search needs
+setting-from-requires : tie.Need-setting-from-requires
+setting-from-requires c κs = search needs
 
 enum-told-2 : tie.Need-enum-told-2
 enum-told-2 c = search needs
 
-array-read-t10 : tie.Need-array-read-t10
-array-read-t10 c = search needs
-
-array-read-t13 : tie.Need-array-read-t13
-array-read-t13 c = search needs
-
-array-read-t16 : tie.Need-array-read-t16
-array-read-t16 c = search needs
-
-array-read-t19 : tie.Need-array-read-t19
-array-read-t19 c = search needs
-
-array-read-t22 : tie.Need-array-read-t22
-array-read-t22 c = search needs
-
-array-read-t25 : tie.Need-array-read-t25
-array-read-t25 c = search needs
+request-from-requires : tie.Need-request-from-requires
+request-from-requires c κs = search needs
 
 enum-told-3 : tie.Need-enum-told-3
 enum-told-3 c = search needs
 
-array-read-t29 : tie.Need-array-read-t29
-array-read-t29 c = search needs
+name-from-requires : tie.Need-name-from-requires
+name-from-requires c κs = search needs
 
 enum-told-4 : tie.Need-enum-told-4
 enum-told-4 c = search needs
@@ -43,13 +30,13 @@ enum-told-5 : tie.Need-enum-told-5
 enum-told-5 c = search needs
 
 returns : tie.Need-returns
-returns c = rw (c .enum-told .given .1)
+returns c = rw (c .before .enum-told .given .1) (ap Open (c .setting-from .ensures))
 
 returns-2 : tie.Need-returns-2
-returns-2 c = rw (c .enum-told2 .given .1)
+returns-2 c = rw (c .before .enum-told2 .given .1) (ap Offer (c .request-from .ensures))
 
 returns-3 : tie.Need-returns-3
-returns-3 c = rw (c .enum-told3 .given .1)
+returns-3 c = rw (c .before .enum-told3 .given .1) (ap Withdraw (c .name-from .ensures))
 
 returns-4 : tie.Need-returns-4
 returns-4 c = search needs
@@ -62,16 +49,11 @@ asked-for-spec =
     tie.close
     (tie.spec
     enum-told
-    array-read-t7
+    setting-from-requires
     enum-told-2
-    array-read-t10
-    array-read-t13
-    array-read-t16
-    array-read-t19
-    array-read-t22
-    array-read-t25
+    request-from-requires
     enum-told-3
-    array-read-t29
+    name-from-requires
     enum-told-4
     enum-told-5
     returns

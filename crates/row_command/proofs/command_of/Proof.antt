@@ -39,8 +39,8 @@ part-read-fields-start c = inside (c .before .before)
 part-read-fields-end : tie.Need-part-read-fields-end
 part-read-fields-end c = search needs
 
-count-of-requires : tie.Need-count-of-requires
-count-of-requires c κs = search needs
+form-of-requires : tie.Need-form-of-requires
+form-of-requires c κs = search needs
 
 read-fields-requires : tie.Need-read-fields-requires
 read-fields-requires c κs = search needs
@@ -54,7 +54,7 @@ told c =
     let v = c .before .before .before in
     let d = v .before .before in
     let e = v .verb-of .ensures in
-    row-read (row c) _ _ (d .before .if1 .left) (d .first-comma .ensures) e (c .before .count-of .ensures) (c .read-fields .ensures)
+    row-read (row c) _ _ (d .before .if1 .left) (d .first-comma .ensures) e (c .before .form-of .ensures) (c .read-fields .ensures)
 
 returns-2 : tie.Need-returns-2
 returns-2 c = told (c .before .before) (not-true _ (c .if2 .taken))
@@ -76,7 +76,7 @@ command-of-spec =
     sub-read-fields
     part-read-fields-start
     part-read-fields-end
-    count-of-requires
+    form-of-requires
     read-fields-requires
     returns-2
     asked-for-requires

@@ -1,35 +1,47 @@
--- `row_fields::read_fields` meets its contract. The invariant: what is left of the text fits the turns left exactly where the whole fits, and
--- the values kept and those of what is left are the values of the whole. The measure is the number of turns left. Assumes nothing.
-use mathlib.Core.Path.{_≡_, refl, sym, ap, _∙_}
-use mathlib.Core.List.{List, _∷_, _++_, map}
+-- `row_fields::read_fields` meets its contract. The invariant: what is left of the text fits what is left of the form exactly where the
+-- whole fits, and the values kept and those of what is left are the values of the whole. The measure is the number of turns left. Assumes nothing.
+use mathlib.Core.Path.{_≡_, refl, sym, ap₂, _∙_}
+use mathlib.Core.List.{List, _∷_, _++_}
 use Prim.Native.Nat.{ℕ, _+_, _-_, _≤_}
 use native.Mathlib.Omega.{arith}
-use lib.ListN.{length, take, drop, length-set}
+use lib.ListN.{length, take, drop, getD, length-set}
 use borrow.Author.Needs.{needs}
 use borrow.Author.Tests.{not-true, not-false}
-use Rattle.spec_text.specs.Fields.{valueOf}
+use Rattle.base_lists.specs.Loops.{left-next}
+use Rattle.spec_text.specs.declared.Field.{Field}
+use Rattle.spec_text.specs.declared.Field.the-variants.{Needed}
+use Rattle.spec_text.specs.Fields.{fieldCount, hasFields, numbersOf}
 use Rattle.row_fields.specs.FieldLaws.{fieldsAfter, after-end, part, part-most, part-next}
-use Rattle.row_fields.specs.FieldLaws.{fitFrom, fit-none, fit-refused, fit-passed, fit-over, fit-done}
-use Rattle.row_fields.specs.ReadLaws.{good-needed, good-value, fields-bad, fields-good, value-kept, values-kept}
+use Rattle.row_fields.specs.FieldLaws.{fit-none, fit-refused, fit-passed, fit-over, fit-done}
+use Rattle.row_fields.specs.ReadLaws.{good-fits, good-value, fields-bad, fields-good, value-kept, values-kept}
 use Rattle.row_fields.proofs.read_fields.Statement.{statement}
 use Rattle.row_fields.proofs.read_fields.Tie as tie
 
 abbrev Inv-loop : tie.InvT-loop
-Inv-loop text count none values₀ at₀ i₀ values at i =
-    (i ≤ 6) × (at ≤ length text) × (length values ≡ 6)
-    × (fitFrom i count (fieldsAfter (drop at text)) ≡ fitFrom 0 count (fieldsAfter text))
-    × (take i values ++ map valueOf (fieldsAfter (drop at text)) ≡ map valueOf (fieldsAfter text))
+Inv-loop text form none values₀ at₀ i₀ values at i =
+    (i ≤ fieldCount) × (at ≤ length text) × (length values ≡ fieldCount)
+    × (hasFields (drop i form) (fieldsAfter (drop at text)) ≡ hasFields form (fieldsAfter text))
+    × (take i values ++ numbersOf (drop i form) (fieldsAfter (drop at text)) ≡ numbersOf form (fieldsAfter text))
 
 abbrev μ-loop : tie.MeasureT-loop
-μ-loop text count none values₀ at₀ i₀ values at i = 6 - i
+μ-loop text form none values₀ at₀ i₀ values at i = fieldCount - i
 
 loop-holds : tie.Need-loop-holds Inv-loop μ-loop
 loop-holds c = (omega arith, omega arith, refl, refl, refl)
 
+-- the form, and its length
+abbrev form : tie.Start Inv-loop μ-loop → List Field
+form s = s .args .t2
+
+whole : (s : tie.Start Inv-loop μ-loop) → length (form s) ≡ fieldCount
+whole s = s .good .1 .0 .1 .0 .1
+
 returns : tie.Need-returns Inv-loop μ-loop
 returns c =
-    let d = c .before .before .loop .inv in
-    fields-bad _ _ (sym (d .3) ∙ rw (after-end _ _ (c .if1 .taken)) (fit-none _ _ (c .before .loop-test .taken)))
+    let l = c .before .before in
+    let s = l .before .before in
+    fields-bad (form s) _
+    (sym (l .loop .inv .3) ∙ rw (after-end _ _ (c .if1 .taken)) (fit-none (form s) (l .loop .i) (omega (arith, whole s))))
 
 add-from : tie.Need-add-from Inv-loop μ-loop
 add-from c = search needs
@@ -63,8 +75,22 @@ next : (c : tie.After-first-comma Inv-loop μ-loop)
     → fieldsAfter (drop (at c) (text c)) ≡ part (at c + 1) (end c) (text c) ∷ fieldsAfter (drop (end c) (text c))
 next c = part-next _ _ _ (c .before .before .if1 .left) (c .first-comma .ensures)
 
+-- what is left of the form begins with what is asked of that field
+left : (c : tie.After-first-comma Inv-loop μ-loop) → let l = c .before .before .before .before in let f = form (l .before .before) in
+    drop (l .loop .i) f ≡ getD f (l .loop .i) Needed ∷ drop (l .loop .i + 1) f
+left c =
+    let l = c .before .before .before .before in
+    let s = l .before .before in
+    left-next (form s) (l .loop .i) Needed (omega (arith, whole s))
+
 add-end : tie.Need-add-end Inv-loop μ-loop
 add-end c = omega (arith, inside c)
+
+mul-asked : tie.Need-mul-asked Inv-loop μ-loop
+mul-asked c = search needs
+
+array-copy-out-asked : tie.Need-array-copy-out-asked Inv-loop μ-loop
+array-copy-out-asked c = omega arith
 
 sub-read-field : tie.Need-sub-read-field Inv-loop μ-loop
 sub-read-field c = search needs
@@ -73,7 +99,7 @@ part-read-field-start : tie.Need-part-read-field-start Inv-loop μ-loop
 part-read-field-start c = omega arith
 
 part-read-field-end : tie.Need-part-read-field-end Inv-loop μ-loop
-part-read-field-end c = inside c
+part-read-field-end c = inside (c .before)
 
 read-field-requires : tie.Need-read-field-requires Inv-loop μ-loop
 read-field-requires c κs = search needs
@@ -81,9 +107,10 @@ read-field-requires c κs = search needs
 returns-2 : tie.Need-returns-2 Inv-loop μ-loop
 returns-2 c =
     let r = c .before .before in
-    let a = r .before .before in
-    let f = sym (good-needed _ _ (r .read-field .ensures)) ∙ not-true _ (c .if2 .taken) in
-    fields-bad _ _ (sym (a .before .before .before .before .loop .inv .3) ∙ rw (next a) (fit-refused _ _ _ _ f))
+    let a = r .before .before .before in
+    let l = a .before .before .before .before in
+    let f = sym (good-fits _ _ (r .read-field .ensures)) ∙ not-true _ (c .if2 .taken) in
+    fields-bad _ _ (sym (l .loop .inv .3) ∙ ap₂ hasFields (left a) (next a) ∙ fit-refused _ _ _ _ f)
 
 mul-values : tie.Need-mul-values Inv-loop μ-loop
 mul-values c = search needs
@@ -100,29 +127,32 @@ loop-less c = search needs
 loop-again : tie.Need-loop-again Inv-loop μ-loop
 loop-again c =
     let r = c .before .before in
-    let a = r .before .before in
+    let a = r .before .before .before in
     let d = a .before .before .before .before .loop in
+    let s = a .before .before .before .before .before .before in
     let e = r .read-field .ensures in
-    let g = not-false _ (c .if2 .left) in (
+    let g = not-false (r .read-field .result .good) (c .if2 .left) in (
       omega arith,
       inside a,
       length-set (d .values) (d .i) _ ∙ d .inv .2,
-      sym (fit-passed _ _ _ _ (sym (good-needed _ _ e) ∙ g)) ∙ sym (ap (fitFrom _ _) (next a)) ∙ d .inv .3,
-      value-kept (d .values) (d .i) _ _ (omega arith) (good-value _ _ e g) (next a) (d .inv .4),
+      sym (ap₂ hasFields (left a) (next a) ∙ fit-passed _ _ _ _ (sym (good-fits _ _ e) ∙ g)) ∙ d .inv .3,
+      value-kept (form s) (d .values) (d .i) _ _ _ (omega (arith, whole s)) (omega arith) (good-value _ _ e g) (next a) (d .inv .4),
     )
 
 returns-3 : tie.Need-returns-3 Inv-loop μ-loop
 returns-3 c =
-    let d = c .before .before .loop in
-    let e : d .i ≡ 6 = omega arith in
-    fields-bad _ _ (sym (d .inv .3) ∙ rw e (fit-over _ _ _ (c .if3 .taken)))
+    let l = c .before .before in
+    let s = l .before .before in
+    fields-bad (form s) _ (sym (l .loop .inv .3) ∙ fit-over (form s) (l .loop .i) _ _ (omega (arith, whole s)) (c .if3 .taken))
 
 returns-4 : tie.Need-returns-4 Inv-loop μ-loop
 returns-4 c =
-    let d = c .before .before .loop in
-    let e : d .i ≡ 6 = omega arith in
-    let g = after-end (c .before .before .before .before .args .text .now) (d .at) (c .if3 .left) in
-    fields-good _ _ (sym (d .inv .3) ∙ rw (e, g) (fit-done _)) (values-kept (d .values) (d .i) (omega arith) g (d .inv .4))
+    let l = c .before .before in
+    let s = l .before .before in
+    let all : length (form s) ≤ l .loop .i = omega (arith, whole s) in
+    let g = after-end (s .args .text .now) (l .loop .at) (c .if3 .left) in
+    fields-good (form s) _ (sym (l .loop .inv .3) ∙ rw g (fit-done (form s) (l .loop .i) all))
+    (values-kept (form s) (l .loop .values) (l .loop .i) _ all (omega arith) (l .loop .inv .4))
 
 pub read-fields-spec : {M : Type 1} → statement M
 read-fields-spec =
@@ -138,6 +168,8 @@ read-fields-spec =
     part-first-comma-end
     first-comma-requires
     add-end
+    mul-asked
+    array-copy-out-asked
     sub-read-field
     part-read-field-start
     part-read-field-end

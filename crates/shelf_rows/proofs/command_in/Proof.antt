@@ -6,19 +6,19 @@ use native.Mathlib.Omega.{arith}
 use borrow.Author.Tests.{le-leb, lt-leb}
 use lib.ListN.{length-take}
 use Rattle.shelf_state.specs.Cutting.{commandIn}
-use Rattle.row_cut.proofs.Known.{row-64}
+use Rattle.row_cut.proofs.Known.{bytes-most}
 use borrow.Author.Needs.{needs}
 use Rattle.shelf_rows.proofs.command_in.Statement.{statement}
 use Rattle.shelf_rows.proofs.command_in.Tie as tie
 
 array-share-prefix-bytes : tie.Need-array-share-prefix-bytes
-array-share-prefix-bytes c = let h = row-64 (c .before .before .args .line) (c .before .before .good .0) in omega arith
+array-share-prefix-bytes c = let h = bytes-most (c .before .before .args .line) (c .before .before .good .0) in omega arith
 
 slice-aggregate-command-of : tie.Need-slice-aggregate-command-of
 slice-aggregate-command-of c =
     let s = c .before .before .before in
     let l = s .args .line in
-    let h = row-64 l (s .good .0) in
+    let h = bytes-most l (s .good .0) in
     sym (length-take (l .len) (l .bytes) ∙ omega arith)
 
 command-of-requires : tie.Need-command-of-requires

@@ -16,7 +16,7 @@ use Rattle.law_rows.specs.Puts.{put-none}
 use Rattle.law_rows.specs.Ready.{ready-after}
 use Rattle.law_rows.specs.Sizes.{rows-most}
 use Rattle.spec_shelf.specs.Meaning.{withTable, stateAfter, planAfter, rowsFor}
-use Rattle.shelf_beacon.specs.Moved.{moved-on, stayed}
+use Rattle.shelf_beacon.specs.Moved.{movable, moved-on, stayed}
 use Rattle.shelf_state.specs.declared.Shelf.{Shelf}
 use Rattle.shelf_state.specs.Parts.{Done, shelfOf, done-none, done-open, done-row, cut-some}
 use Rattle.shelf_rows.proofs.serve_rows.Statement.{statement}
@@ -130,8 +130,8 @@ again c {q} told a k =
       ),
     )
 
-enum-known-units : tie.Need-enum-known-units Inv-loop μ-loop
-enum-known-units c = search needs
+enum-known-setting : tie.Need-enum-known-setting Inv-loop μ-loop
+enum-known-setting c = search needs
 
 answer-open-requires : tie.Need-answer-open-requires Inv-loop μ-loop
 answer-open-requires c κs = room (cut (c .before .before .before .before))
@@ -147,7 +147,7 @@ unfolding stateAfter planAfter rowsFor
 loop-again c =
     let o = c .before .before .before .before in
     let e = o .answer-open .ensures in
-    let told = c .before .before .before .before .before .before .before .units .given .1 in
+    let told = c .before .before .before .before .before .before .before .setting .given .1 in
     let opens = sym (e .0) ∙ c .before .if3 .taken in
     again (c .before .before .before .before .before .before .before .before .before)
     told (rw opens (ap withTable (c .opened-table .ensures)), (e .1 .0, (e .1 .1, refl))) (refl, o .answer-open .kept .1 .0)
@@ -160,7 +160,7 @@ unfolding stateAfter planAfter rowsFor
 loop-again-2 c =
     let o = c .before .before .before in
     let e = o .answer-open .ensures in
-    let told = c .before .before .before .before .before .before .units .given .1 in
+    let told = c .before .before .before .before .before .before .setting .given .1 in
     let refused = sym (e .0) ∙ c .if3 .left in
     again (c .before .before .before .before .before .before .before .before)
     told (rw refused refl, (e .1 .0, (e .1 .1, refl))) (refl, o .answer-open .kept .1 .0)
@@ -204,8 +204,8 @@ loop-again-4 c =
     let none = put-none (l .ready) (l .table) (Offer (told .0 .0)) (r .place) (r .entry) (l .inv .1 .0) refl (c .if4 .left) (e .0) in
     again k (told .1) (none, (e .1 .0, (e .1 .1, refl))) (refl, p .answer-offer .kept .1 .1 .1 .0)
 
-enum-known-stream : tie.Need-enum-known-stream Inv-loop μ-loop
-enum-known-stream c = search needs
+enum-known-name : tie.Need-enum-known-name Inv-loop μ-loop
+enum-known-name c = search needs
 
 answer-withdraw-requires : tie.Need-answer-withdraw-requires Inv-loop μ-loop
 answer-withdraw-requires c κs = (let r = cut (c .before .before .before .before) in (turn r .loop .inv .1 .0, room r))
@@ -224,7 +224,7 @@ unfolding planAfter
 loop-again-5 c =
     let p = c .before .before .before .before in
     let e = p .answer-withdraw .ensures in
-    let told = c .before .before .before .before .before .before .before .stream .given .1 in
+    let told = c .before .before .before .before .before .before .before .name .given .1 in
     again (c .before .before .before .before .before .before .before .before .before)
     told (e .0, (e .1 .0, (e .1 .1, refl))) (refl, p .answer-withdraw .kept .1 .1 .1 .0)
 
@@ -237,7 +237,7 @@ loop-again-6 c =
     let p = c .before .before .before in
     let e = p .answer-withdraw .ensures in
     let r = p .answer-withdraw .result in
-    let told = c .before .before .before .before .before .before .stream .given in
+    let told = c .before .before .before .before .before .before .name .given in
     let k = c .before .before .before .before .before .before .before .before in
     let l = turn (cut k) .loop in
     let none = put-none (l .ready) (l .table) (Withdraw (told .0 .0)) (r .place) (r .entry) (l .inv .1 .0) refl (c .if5 .left) (e .0) in
@@ -255,8 +255,7 @@ answer-beacon-requires c κs =
 advance-requires : tie.Need-advance-requires Inv-loop μ-loop
 advance-requires c κs =
     let b = c .before .before .before .before .before .before .before .answer-beacon in
-    let m = b .ensures .0 .moves (c .before .if6 .taken) in
-    (m .0, m .1 .0)
+    movable _ _ (b .ensures .0) (c .before .if6 .taken)
 
 loop-less-7 : tie.Need-loop-less-7 Inv-loop μ-loop
 loop-less-7 c = less (cut (c .before .before .before .before .before .before .before .before .before .before .before .before .before))
@@ -356,7 +355,7 @@ serve-rows-spec =
     add-taken
     at-start-requires
     command-in-requires
-    enum-known-units
+    enum-known-setting
     answer-open-requires
     opened-table-requires
     loop-less
@@ -371,7 +370,7 @@ serve-rows-spec =
     loop-again-3
     loop-less-4
     loop-again-4
-    enum-known-stream
+    enum-known-name
     answer-withdraw-requires
     mul-e-2
     element-set-from-e-2

@@ -10,7 +10,7 @@ returns : tie.Need-returns
 returns c = rw (eq-eqb _ _ (c .before .if1 .taken)) (c .part-of .ensures)
 
 returns-2 : tie.Need-returns-2
-returns-2 c = rw (ne-eqb _ _ (c .if1 .left))
+returns-2 c = rw (ne-eqb _ _ (c .before .if1 .left))
 
 pub job-length-spec : {M : Type 1} → statement M
 job-length-spec = tie.close (tie.spec part-of-requires returns returns-2)

@@ -6,7 +6,7 @@ is-piece-requires : tie.Need-is-piece-requires
 is-piece-requires c κs = search needs
 
 returns : tie.Need-returns
-returns c = rw (← c .before .is-piece .ensures, c .if1 .taken)
+returns c = rw (← c .before .before .is-piece .ensures, c .before .if1 .taken)
 
 returns-2 : tie.Need-returns-2
 returns-2 c = rw (← c .before .is-piece .ensures, c .if1 .left)

@@ -1,7 +1,10 @@
+use mathlib.Core.Path.{sym, ap, _∙_}
 use mathlib.Core.Logic.{inl, inr}
+use mathlib.Core.Bool.{not}
 use Prim.Native.Nat.{_-_}
 use native.Mathlib.Omega.{arith}
 use borrow.Author.Needs.{needs}
+use Rattle.spec_model.specs.Tables.{places}
 use Rattle.table_queue.proofs.Making.{Making, queue, making-none, load-small, making-more, making-same, making-all}
 use Rattle.table_queue.proofs.queue_of.Statement.{statement}
 use Rattle.table_queue.proofs.queue_of.Tie as tie
@@ -11,7 +14,7 @@ Inv-loop t used₀ load₀ ranks₀ owed₀ limits₀ jobs₀ i₀ used load ran
     Making t i (queue used load ranks owed limits jobs)
 
 abbrev μ-loop : tie.MeasureT-loop
-μ-loop t used₀ load₀ ranks₀ owed₀ limits₀ jobs₀ i₀ used load ranks owed limits jobs i = 32 - i
+μ-loop t used₀ load₀ ranks₀ owed₀ limits₀ jobs₀ i₀ used load ranks owed limits jobs i = places - i
 
 loop-holds : tie.Need-loop-holds Inv-loop μ-loop
 loop-holds c = making-none (c .args .t1) (c .good .0) (c .pre)
@@ -22,6 +25,9 @@ mul-e c = search needs
 element-copy-out-e : tie.Need-element-copy-out-e Inv-loop μ-loop
 element-copy-out-e c = search needs
 
+is-nobody-requires : tie.Need-is-nobody-requires Inv-loop μ-loop
+is-nobody-requires c κs = search needs
+
 add-used : tie.Need-add-used Inv-loop μ-loop
 add-used c = search needs
 
@@ -30,13 +36,13 @@ load-of-requires c κs = search needs
 
 add-load : tie.Need-add-load Inv-loop μ-loop
 add-load c =
-    let l = c .before .before .before .before in
+    let l = c .before .before .before .before .before in
     let s = l .before in
     let m = l .loop .inv in
     omega (
       arith,
       c .load-of .ensures,
-      load-small (s .args .t1) (s .good .0) (s .pre) m (c .before .before .before .loop-test .taken),
+      load-small (s .args .t1) (s .good .0) (s .pre) m (c .before .before .before .before .loop-test .taken),
       m .within,
       m .small,
     )
@@ -85,15 +91,16 @@ loop-less c = search needs
 
 loop-again : tie.Need-loop-again Inv-loop μ-loop
 loop-again c =
-    let l = c .before .before .before in
+    let l = c .before .before .before .before in
     let s = l .before in
     let t = s .args .t1 in
-    let h = c .before .before .loop-test .taken in
+    let h = c .before .before .before .loop-test .taken in
+    let f = ap not (sym (c .before .is-nobody .ensures)) in
     elim (c .if1 .came) [
       | inl w ↦ rw (w .6, w .7, w .8, w .9, w .10, w .11)
-          (making-more t (s .good .0) (s .pre) (l .loop .inv) h (w .0 .taken) (w .1 .ensures) (w .2 .ensures) (w .3 .ensures) (w .4 .ensures)
+          (making-more t (s .good .0) (s .pre) (l .loop .inv) h (f ∙ w .0 .taken) (w .1 .ensures) (w .2 .ensures) (w .3 .ensures) (w .4 .ensures)
           (w .5 .ensures))
-      | inr w ↦ rw (w .1, w .2, w .3, w .4, w .5, w .6) (making-same t (s .good .0) (s .pre) (l .loop .inv) h (w .0 .left))
+      | inr w ↦ rw (w .1, w .2, w .3, w .4, w .5, w .6) (making-same t (s .good .0) (s .pre) (l .loop .inv) h (f ∙ w .0 .left))
     ]
 
 returns : tie.Need-returns Inv-loop μ-loop
@@ -110,6 +117,7 @@ queue-of-spec =
     loop-holds
     mul-e
     element-copy-out-e
+    is-nobody-requires
     add-used
     load-of-requires
     add-load

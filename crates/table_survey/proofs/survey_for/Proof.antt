@@ -4,10 +4,12 @@ use Prim.Native.Nat.{_-_, _≤_}
 use native.Mathlib.Omega.{arith}
 use borrow.Author.Needs.{needs}
 use Rattle.base_lists.specs.All.{all-at}
-use Rattle.law_steps.specs.Closed.{mostSlots, load-most}
+use Rattle.spec_model.specs.Tables.{places}
+use Rattle.spec_rules.specs.Share.{loadOf}
+use Rattle.law_model.specs.Frames.{mostSlots}
+use Rattle.law_steps.specs.Closed.{load-most}
 use Rattle.table_places.proofs.Known.{inside, past}
 use Rattle.table_queue.specs.Queues.{free-place}
-use Rattle.table_entry.specs.Amounts.{loadOf}
 use Rattle.ahead_even.specs.Need.{evenNeed}
 use Rattle.table_survey.specs.Free.{isFree}
 use Rattle.table_survey.specs.Passes.{Passed, passed-none, passed-more, passed-all, free-needs}
@@ -15,10 +17,10 @@ use Rattle.table_survey.proofs.survey_for.Statement.{statement}
 use Rattle.table_survey.proofs.survey_for.Tie as tie
 
 abbrev Inv-loop : tie.InvT-loop
-Inv-loop stream t s₀ i₀ s i = (i ≤ 32) × Passed stream (t .entries) i s
+Inv-loop name t s₀ i₀ s i = (i ≤ places) × Passed name (t .entries) i s
 
 abbrev μ-loop : tie.MeasureT-loop
-μ-loop stream t s₀ i₀ s i = 32 - i
+μ-loop name t s₀ i₀ s i = places - i
 
 loop-holds : tie.Need-loop-holds Inv-loop μ-loop
 loop-holds c = (omega arith, passed-none _ _)

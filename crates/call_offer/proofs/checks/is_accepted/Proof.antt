@@ -7,10 +7,10 @@ use denote.Enum.Declared.{tagOf}
 use borrow.Author.Needs.{needs}
 use Rattle.spec_model.specs.Answers.{offerNumber}
 use Rattle.spec_model.specs.declared.OfferAnswer.{OfferAnswer}
+use Rattle.call_offer.proofs.checks.is_accepted.Statement.{statement}
 use Rattle.spec_model.specs.declared.OfferAnswer.the-variants.{Accepted, StreamOutside, StreamHeld, KindUnknown}
 use Rattle.spec_model.specs.declared.OfferAnswer.the-variants.{PeriodOutside, AmountsOutside, LifeOutside, TableFull, NoTime}
 use Rattle.spec_model.proofs.OfferAnswer as T
-use Rattle.call_offer.proofs.checks.is_accepted.Statement.{statement}
 use Rattle.call_offer.proofs.checks.is_accepted.Tie as tie
 
 enum-told : tie.Need-enum-told
