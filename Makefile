@@ -20,9 +20,10 @@ show:
 	$(call prove,shelf)
 	@target/bin/shelf < reference/data/school.in
 
-# The gate: layout, the second implementation's own tests and its stored rows, the stored pictures; the names in documents and comments, and what
-# must be believed; then every proof from nothing, every must-fail edit and every program, and why each edit was refused; then, over what was
-# just proved, the calls from C and from Rust, and the program where reads and writes fail. The last line is that of rt ci.
+# The gate: layout, the second implementation's own tests and its stored rows, the stored pictures; the names in documents and comments,
+# what must be believed, and what is opened where; then every proof from nothing, every must-fail edit and every program, and why each edit
+# was refused; then, over what was just proved, the calls from C and from Rust, and the program where reads and writes fail. The last line
+# is that of rt ci.
 # Crates and edits are checked in batches, each of which waits for its slowest: batches of six keep two cores at work. A check unpacks some
 # 200 MB of small files: in memory, where it has 8 GB for them and programs may run from there. The recipe says make and not its variable,
 # since a dry run, make -n, runs a line that has the variable.
@@ -32,6 +33,7 @@ test: reference compared
 	@rt fmt --check
 	@tests/names
 	@tests/believed
+	@tests/seams
 	@log=$$(mktemp) && RT_JOBS=6 TMPDIR=$(or $(TMPDIR),$(scratch),/tmp) rt ci | tee $$log && tests/edits && make bindings failures \
 	    && tail -n 1 $$log && rm $$log
 
