@@ -1,14 +1,14 @@
 -- What an even share of every interval takes of one interval: for an entry, by its kind, and for a table's places together, where it is
 -- enough if an interval has as much. Assumes nothing.
-use mathlib.Core.Path.{_≡_, refl, ap, _∙_}
-use mathlib.Core.Bool.{Bool, true, false, cond}
+use mathlib.Core.Path.{_≡_, refl, ap, ap₂, _∙_}
+use mathlib.Core.Bool.{true}
 use mathlib.Core.List.{List, [], _∷_}
-use Prim.Native.Nat.{ℕ, _+_, _*_, _≤_, max, zero-le}
-use native.Mathlib.Nat.{mul-le-mul}
+use Prim.Native.Nat.{ℕ, _+_, _*_, _≤_, max}
+use native.Mathlib.Nat.{le-trans, mul-le-mul}
 use native.Mathlib.Omega.{arith}
 use Rattle.spec_lists.specs.Lists.{sumOf}
 use Rattle.base_lists.specs.Sums.{sum-keep-le}
-use Rattle.spec_model.specs.Entries.{freeEntry, isHeld, isKind}
+use Rattle.spec_model.specs.Entries.{freeEntry, isHeld}
 use Rattle.spec_model.specs.declared.Entry.{Entry}
 use Rattle.spec_model.specs.declared.Table.{Table}
 use Rattle.spec_model.specs.Tables.{heldOf}
@@ -16,6 +16,7 @@ use Rattle.spec_model.specs.Frames.{roomIn}
 use Rattle.spec_rules.specs.Share.{load, loadOf}
 use Rattle.spec_rules.specs.Ahead.{fitsAhead}
 use Rattle.spec_rules.specs.WellFormed.{Tidy}
+use Rattle.law_model.specs.Loads.{load-of-free, load-of-most}
 use Rattle.law_steps.specs.Places.{load-places}
 use Rattle.law_ahead.specs.Tables.{tidy-together}
 use Rattle.law_ahead.specs.Even.{evenly, even-ahead}
@@ -30,17 +31,17 @@ pub evenly-free : evenly freeEntry ≡ 0
 unfolding evenly
 evenly-free = refl
 
+pub need-free : evenNeed freeEntry ≡ 0
+unfolding evenNeed
+need-free = ap₂ (λ a b. a + b) load-of-free evenly-free
+
 pub evenly-fraction : (e : Entry) → e .kind ≡ 1 → evenly e ≡ 0
 unfolding evenly
 evenly-fraction e k = rw k refl
 
 -- of numbers of 32 bits it has 64, with room for another number of 32
 pub load-fits : (e : Entry) → e .parts ≤ largest32 → e .min .0 ≤ largest32 → loadOf e ≤ largest32 * largest32
-load-fits e h k = go (isKind 1 e)
-  where
-    go : (b : Bool) → cond b (e .parts * e .min .0) 0 ≤ largest32 * largest32
-    go true = mul-le-mul h k
-    go false = zero-le
+load-fits e h k = le-trans (load-of-most e) (mul-le-mul h k)
 
 -- ---- the larger of two
 pub larger-right : (a b : ℕ) → a ≤ b → b ≡ max a b

@@ -1,6 +1,6 @@
 -- The figures of a table's places as looking ahead keeps them: an array for each figure. Definitions and laws hand them on as one record of
 -- columns, and read a place's figures by `figuresAt`. Assumes nothing.
-use mathlib.Core.Path.{_≡_, refl, sym, ap, _∙_}
+use mathlib.Core.Path.{_≡_, refl, sym, ap, ap₂, _∙_}
 use mathlib.Core.List.{List, [], _∷_, map}
 use Prim.Native.Nat.{ℕ, zero, suc, _<_}
 use lib.ListN.{length, set, getD, replicate, length-map}
@@ -9,6 +9,7 @@ use Rattle.spec_model.specs.Entries.{freeEntry}
 use Rattle.spec_model.specs.declared.Entry.{Entry}
 use Rattle.spec_model.specs.Tables.{places}
 use Rattle.spec_rules.specs.Share.{loadOf}
+use Rattle.law_model.specs.Loads.{load-of-free}
 use Rattle.law_steps.specs.Ranks.{rank, rank-free}
 use Rattle.table_entry.specs.Amounts.{owedTo}
 use Rattle.ahead_figures.specs.Figures.{never, endOf, lifeOf, beginOf, periodOf, figuresOf}
@@ -68,8 +69,8 @@ pub columns-free :
     (replicate places 0)
     ≡ columnsOf (replicate places freeEntry)
 columns-free =
-    ap (λ r. columns (replicate places r) (replicate places 0) (replicate places never) (replicate places 0) (replicate places 0)
-    (replicate places 0) (replicate places 0)) (sym rank-free)
+    ap₂ (λ r l. columns (replicate places r) (replicate places 0) (replicate places never) (replicate places 0) (replicate places l)
+    (replicate places 0) (replicate places 0)) (sym rank-free) (sym load-of-free)
 
 pub columns-sized : (es : List Entry) → length es ≡ places → Sized (columnsOf es)
 columns-sized es n =

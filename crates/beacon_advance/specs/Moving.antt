@@ -6,13 +6,13 @@ use Rattle.spec_model.specs.Entries.{freeEntry}
 use Rattle.spec_model.specs.Tables.{withEntries}
 use Rattle.spec_model.specs.declared.Entry.{Entry}
 use Rattle.spec_model.specs.declared.Table.{Table}
-use Rattle.law_steps.specs.Settled.{after, after-free}
+use Rattle.law_steps.specs.Settled.{after}
 use Rattle.table_queue.specs.Zips.{zip}
 use Rattle.table_queue.specs.Queues.{Used}
 use Rattle.beacon_share.specs.Shares.{grantAt}
 use Rattle.beacon_share.specs.declared.Granted.{Granted}
 use Rattle.beacon_share.specs.declared.Shares.{Shares}
-use Rattle.beacon_advance.specs.Zipped.{zipped, zipped-at, zipped-all}
+use Rattle.beacon_advance.specs.Zipped.{zipped, zipped-at}
 
 -- what an entry was given in its period, with its grant, is no more than an amount of its request: it has 32 bits
 abbrev pub WithinAmounts : Granted → Entry → Type 0

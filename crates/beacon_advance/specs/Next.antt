@@ -4,7 +4,7 @@ use mathlib.Core.Path.{_≡_, sym, ap, _∙_}
 use mathlib.Core.List.{List, map, map-id}
 use Prim.Native.Nat.{ℕ, _<_}
 use native.Mathlib.Omega.{arith}
-use lib.ListN.{length, getD, length-map}
+use lib.ListN.{length, length-map}
 use Rattle.spec_lists.specs.All.{All}
 use Rattle.base_lists.specs.All.{all-at, all-map, map-ext}
 use Rattle.spec_model.specs.Entries.{freeEntry}

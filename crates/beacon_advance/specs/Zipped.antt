@@ -6,7 +6,7 @@ use native.Mathlib.Nat.{not-suc-le-zero, le-of-suc-le-suc}
 use native.Mathlib.Numerals.{add-one}
 use native.Mathlib.Omega.{arith}
 use lib.ListN.{length, take, drop, set, getD}
-use Rattle.spec_lists.specs.All.{stop, and}
+use Rattle.spec_lists.specs.All.{and}
 use Rattle.base_lists.specs.Spare.{Spare}
 use Rattle.table_queue.specs.Zips.{zip}
 

@@ -33,11 +33,12 @@ pub fn empty_table(frame: Frame) -> Table
 }
 
 // What stands where there is no table: an interval of 0 slots.
+const NO_FRAME: Frame = Frame { slots: Slots(0) };
+
 pub fn no_table() -> Table
     ensures { λ r. ⌜ r ≡ noTable ⌝ }
 {
-    let slots = Slots(0);
-    empty_table(Frame { slots })
+    empty_table(NO_FRAME)
 }
 
 pub fn open_answer(s: Setting) -> OpenAnswer
@@ -54,7 +55,8 @@ fn frame_of(s: Setting) -> Frame
     requires { ⌜ Succeeds s ⌝ }
     ensures { λ r. ⌜ r ≡ frameOf s ⌝ }
 {
-    let slots = Slots(spec_model::UNIT_SLOTS * s.units);
+    let count = spec_model::UNIT_SLOTS * s.units;
+    let slots = Slots(count);
     Frame { slots }
 }
 

@@ -6,6 +6,9 @@ ghost use Rattle.spec_rules.specs.WellFormed.{WellFormed};
 use spec_model::Slots;
 use spec_model::Table;
 
+// The words of two records.
+const TWO_RECORDS: usize = spec_model::RECORD_WORDS * 2;
+
 // Tables that hold nothing, of one time unit and of three.
 fn one_unit() -> Table
     ensures { λ r. ⌜ WellFormed r ⌝ }
@@ -86,7 +89,7 @@ fn case_9() {
     demo_calls::window(&plan, b.count, Slots(513), Slots(512));
     demo_calls::window(&plan, spec_model::MOST_RECORDS + 1, Slots(513), Slots(512));
     demo_calls::window(&plan, 4294967295, Slots(100), Slots(512));
-    let together = [5u32, 0, 100, 10, 7, 0, 100, 10];
+    let together = [0u32; TWO_RECORDS];
     demo_calls::window(&together, 2, Slots(100), Slots(512));
 }
 

@@ -7,6 +7,19 @@ use spec_model::Name;
 use spec_model::Request;
 use spec_model::Table;
 
+// What an offer asks, by its fields in their order.
+fn request(stream: u32, kind: u32, period: u32, min: u32, max: u32, life: u32) -> Request {
+    let name = Name { stream };
+    Request {
+        name,
+        kind,
+        period,
+        min,
+        max,
+        life,
+    }
+}
+
 // ---- many at once
 // The streams from q's to just before the end each offer what q asks.
 fn readers(t: Table, q: Request, end: u32) -> Table
@@ -67,14 +80,7 @@ fn first_lesson(t: Table, plan: &mut [u32]) -> Table
     ensures { λ r. ⌜ WellFormed r ⌝ }
 {
     demo_calls::line(b"lesson 1");
-    let all = Request {
-        name: Name { stream: 1 },
-        kind: 1,
-        period: 4,
-        min: 200,
-        max: 400,
-        life: 4,
-    };
+    let all = request(1, 1, 4, 200, 400, 4);
     let t = readers(t, all, 31);
     let t = demo_calls::offer(t, 101, 3, 4, 250000, 0, 4);
     let t = demo_calls::offer(t, 102, 3, 2, 60000, 0, 2);
@@ -90,23 +96,9 @@ fn second_lesson(t: Table, plan: &mut [u32]) -> Table
     ensures { λ r. ⌜ WellFormed r ⌝ }
 {
     demo_calls::line(b"lesson 2");
-    let aloud = Request {
-        name: Name { stream: 1 },
-        kind: 1,
-        period: 2,
-        min: 5000,
-        max: 9000,
-        life: 4,
-    };
+    let aloud = request(1, 1, 2, 5000, 9000, 4);
     let t = readers(t, aloud, 5);
-    let pages = Request {
-        name: Name { stream: 5 },
-        kind: 2,
-        period: 2,
-        min: 20000,
-        max: 60000,
-        life: 4,
-    };
+    let pages = request(5, 2, 2, 20000, 60000, 4);
     let t = readers(t, pages, 9);
     let t = demo_calls::beacon(t, plan);
     demo_calls::enquire(t, 5);
@@ -150,14 +142,7 @@ fn fourth_lesson(t: Table, plan: &mut [u32]) -> Table
     ensures { λ r. ⌜ WellFormed r ⌝ }
 {
     demo_calls::line(b"lesson 4");
-    let aloud = Request {
-        name: Name { stream: 21 },
-        kind: 1,
-        period: 2,
-        min: 10000,
-        max: 20000,
-        life: 3,
-    };
+    let aloud = request(21, 1, 2, 10000, 20000, 3);
     let t = readers(t, aloud, 24);
     let t = demo_calls::offer(t, 104, 3, 1, 42401, 0, 1);
     let t = demo_calls::offer(t, 104, 3, 1, 42400, 0, 1);
@@ -190,14 +175,7 @@ fn sixth_lesson(t: Table, plan: &mut [u32]) -> Table
     ensures { λ r. ⌜ WellFormed r ⌝ }
 {
     demo_calls::line(b"lesson 6");
-    let all = Request {
-        name: Name { stream: 1 },
-        kind: 2,
-        period: 1,
-        min: 2000,
-        max: 4000,
-        life: 8,
-    };
+    let all = request(1, 2, 1, 2000, 4000, 8);
     let t = readers(t, all, 31);
     let t = intervals(t, Intervals(3), plan);
     let t = leavers(t, 3, 31);

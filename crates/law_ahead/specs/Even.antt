@@ -12,17 +12,16 @@ use Rattle.spec_lists.specs.Lists.{sumOf, span}
 use Rattle.base_lists.specs.All.{all-map}
 use Rattle.base_lists.specs.Sums.{sum-le}
 use Rattle.base_numbers.specs.Upward.{upward, upward-enough}
-use Rattle.base_edf.specs.Time.{due-le, due-in}
 use Rattle.base_edf.specs.Necessity.{Fed, fed-gone, fed-room}
 use Rattle.spec_model.specs.Entries.{isKind, isPiece, asks}
 use Rattle.spec_model.specs.declared.Entry.{Entry}
 use Rattle.spec_model.specs.declared.Frame.{Frame}
 use Rattle.spec_model.specs.Frames.{roomIn}
-use Rattle.spec_rules.specs.Share.{load, loadOf}
+use Rattle.spec_rules.specs.Share.{load}
 use Rattle.spec_rules.specs.Ahead.{fitsAhead}
 use Rattle.spec_rules.specs.WellFormed.{Held}
 use Rattle.law_steps.specs.Held.{Piece, held-kinds, piece-of}
-use Rattle.law_steps.specs.Sources.{sourceOf, loadAt, fraction-source, piece-source}
+use Rattle.law_steps.specs.Sources.{sourceOf, loadAt, load-falls, fraction-source, piece-source}
 use Rattle.law_ahead.specs.Moved.{Together}
 use Rattle.law_ahead.specs.Fits.{loadsAt, loads-now}
 use Rattle.law_ahead.specs.Exact.{fits-ahead}
@@ -77,12 +76,6 @@ even-fed {F} e h = ⊎-elim (λ f. rw (fraction-source e (f .kind)) (fed-gone _)
           omega (arith, span-first (evenly e) (e .left .0), now-enough p),
           λ k i. omega (arith, span-even (evenly e) (e .left .0 + k * e .period .0) (e .period .0), later-enough p (omega arith)),
         )
-
--- ---- what an entry takes of every interval never grows
-load-falls : {F : Frame} (t : ℕ) (e : Entry) → Held F e → loadAt e t ≤ loadAt e 0
-unfolding loadAt
-load-falls t e h =
-    omega (arith, due-le (suc t) (e .«life_left» .0) (loadOf e), due-in 1 (e .«life_left» .0) (loadOf e) (h .alive))
 
 -- ---- together
 module _ (F : Frame) (es : List Entry) (w : Together F es) (h : load es + sumOf evenly es ≤ roomIn F) where

@@ -4,7 +4,7 @@
 use mathlib.Core.Path.{_≡_, refl, ap, subst, fun-ext, _∙_}
 use mathlib.Core.Bool.{Bool, true, false, cond}
 use mathlib.Core.List.{List}
-use Prim.Native.Nat.{ℕ, zero, suc, _*_, _-_, _/_, _≤_, zero-le}
+use Prim.Native.Nat.{ℕ, zero, suc, _-_, _/_, _≤_, zero-le}
 use native.Mathlib.Omega.{arith}
 use Rattle.spec_lists.specs.Lists.{sumOf, span}
 use Rattle.base_lists.specs.All.{all-map}

@@ -3,8 +3,8 @@
 use mathlib.Core.Path.{_≡_, refl, sym, subst, _∙_}
 use mathlib.Core.Logic.{_⊎_, inl, inr}
 use mathlib.Core.Bool.{Bool, true, false, cond}
-use mathlib.Core.List.{List, _∷_, map}
-use Prim.Native.Nat.{ℕ, zero, suc, _*_, _≤_, zero-le}
+use mathlib.Core.List.{List, _∷_}
+use Prim.Native.Nat.{ℕ, zero, suc, _≤_, zero-le}
 use native.Mathlib.Nat.{le-refl}
 use native.Mathlib.Omega.{arith}
 use lib.Dec.{ltb, eqb, eqb·suc-zero}
@@ -30,6 +30,7 @@ use Rattle.spec_rules.specs.Calls.{holds, offerAnswer, placed, offered, withdra
 use Rattle.spec_rules.specs.WellFormed.{Held, WellFormed, Tidy}
 use Rattle.spec_rules.specs.Settings.{opened, Succeeds, frameOf}
 use Rattle.spec_rules.specs.Records.{planWords}
+use Rattle.law_model.specs.Frames.{opened-none}
 use Rattle.law_steps.specs.Grants.{once-cons}
 use Rattle.law_steps.specs.Held.{held-is, entry-held}
 use Rattle.law_steps.specs.Offers.{offerChecksBut, Passed, checks-passed, isFull, hasTime, answer-fits, answer-passed}
@@ -42,9 +43,9 @@ use Rattle.law_ahead.specs.Loop.{ahead-none}
 
 -- ---- opening
 pub opened-formed : (s : Setting) → Succeeds s → WellFormed (opened s)
-unfolding opened
 opened-formed s h =
-    record {
+    subst WellFormed (sym (opened-none s))
+    (record {
       tidy = record {
         setting = (s, h, refl);
         size = length-replicate places freeEntry;
@@ -52,7 +53,7 @@ opened-formed s h =
         once = λ n. zero-le;
       };
       fits = ahead-none (frameOf s);
-    }
+    })
   where
     free : (n : ℕ) → All (λ e. (e ≡ freeEntry) ⊎ Held (frameOf s) e) (replicate n freeEntry)
     free zero = stop

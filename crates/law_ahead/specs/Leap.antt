@@ -14,7 +14,7 @@ use Rattle.spec_lists.specs.Lists.{cons-if, keep, anyOf}
 use Rattle.spec_lists.specs.All.{All}
 use Rattle.base_lists.specs.Tests.{clash}
 use Rattle.base_lists.specs.All.{all-map, all-zip, all-of, all-of-map, map-ext, none-any}
-use Rattle.base_lists.specs.Sums.{sum-map}
+use Rattle.base_lists.specs.Sums.{sum-map, sum-ext}
 use Rattle.spec_model.specs.Entries.{freeEntry, isHeld, isKind, isPiece}
 use Rattle.spec_model.specs.declared.Entry.{Entry}
 use Rattle.spec_model.specs.declared.Table.{Table}
@@ -24,6 +24,7 @@ use Rattle.spec_model.specs.Tables.{heldOf, withEntries}
 use Rattle.spec_rules.specs.Share.{slotsFor, load, overfull, capacity, stepB, loadOf}
 use Rattle.spec_rules.specs.Ahead.{passed, renewed, settled, stepF, misses, fitsAhead}
 use Rattle.spec_rules.specs.WellFormed.{Held, Tidy}
+use Rattle.law_model.specs.Loads.{load-of-standing}
 use Rattle.law_steps.specs.Grants.{slots-none}
 use Rattle.law_steps.specs.Held.{Fraction, Piece, held-kinds, piece-of, not-fraction, fraction-not}
 use Rattle.law_steps.specs.Settled.{after, after-free}
@@ -122,6 +123,7 @@ module _ (n : ℕ) (t : Table) where
   pub skipped-load : load (heldOf (skipped n t)) ≡ load (heldOf t)
   unfolding load
   skipped-load = ap load skipped-held ∙ sum-map loadOf on-by (heldOf t)
+      ∙ sum-ext (λ e. loadOf (on-by e)) loadOf (all-of (heldOf t) (λ e. load-of-standing e _ _ _ _))
 
   pub skipped-capacity : E (skipped n t) ≡ E t
   skipped-capacity = ap (λ v. roomIn (t .frame) - v) skipped-load

@@ -26,6 +26,8 @@ use Rattle.spec_rules.specs.Settings.{Succeeds, frameOf, opened}
 use Rattle.spec_rules.specs.Records.{recordWords, planWords, recordsOf}
 use Rattle.spec_rules.specs.Calls.{holds, offerAnswer, placed, offered, heldAnswer, freed, withdrawn}
 use Rattle.spec_rules.specs.Calls.{planOf, advanced, refusedBeacon, plannedBeacon, beacon}
+use Rattle.spec_rules.specs.WellFormed.{WellFormed}
+use Rattle.law_model.specs.Frames.{opened-none}
 use Rattle.law_model.specs.Records.{records-back}
 use Rattle.law_steps.specs.Offers.{offerChecksBut, isFull, hasTime, offer-refused, offer-passed, answer-passed}
 use Rattle.law_ahead.specs.Tables.{formed-together}
@@ -139,8 +141,10 @@ module _ (l : Ledger) (t : Table) (v : Stands l t) where
 
 -- ---- the theorem
 start : (s : Setting) → Succeeds s → Stands noAdmission (opened s)
-unfolding opened
-start s h = record { formed = opened-formed s h; paired = done; kept = stop; past = stop }
+start s h =
+    subst (λ t. WellFormed t → Stands noAdmission t) (sym (opened-none s))
+    (λ w. record { formed = w; paired = done; kept = stop; past = stop })
+    (opened-formed s h)
 
 module _ (s : Setting) (h : Succeeds s) (cs : List Call) where
   abbrev reached : Table
@@ -153,8 +157,7 @@ module _ (s : Setting) (h : Succeeds s) (cs : List Call) where
   reached-stands = along cs noAdmission (opened s) (start s h)
 
   frame-is : reached .frame ≡ frameOf s
-  unfolding opened
-  frame-is = frame-along (opened s) cs
+  frame-is = frame-along (opened s) cs ∙ ap (λ (t : Table). t .frame) (opened-none s)
 
   right-next : (c : Call) → Right (frameOf s) ledger (seen reached c)
   right-next c = subst (λ F. Right F ledger (seen reached c)) frame-is (answer-right ledger reached reached-stands c)

@@ -16,6 +16,7 @@ use Rattle.spec_model.specs.declared.Table.{Table}
 use Rattle.spec_model.specs.Tables.{places}
 use Rattle.spec_rules.specs.WellFormed.{Held, Tidy}
 use Rattle.spec_rules.specs.Share.{loadOf}
+use Rattle.law_model.specs.Loads.{load-of-free}
 use Rattle.law_steps.specs.Held.{Fraction, Piece, held-kinds, held-is, piece-of, fraction-not}
 use Rattle.table_entry.specs.Amounts.{owedTo}
 use Rattle.law_ahead.specs.Even.{evenly}
@@ -90,7 +91,7 @@ module _ {now used : ℕ} {t : Table} {c : Columns} (s : Shows now used t c) (w 
         record {
           few = s .spare .0;
           owed = λ i h k. s .each i k .owed ∙ ap owedTo (behind i h k);
-          loads = λ i h k. s .each i k .load ∙ ap loadOf (behind i h k);
+          loads = λ i h k. s .each i k .load ∙ ap loadOf (behind i h k) ∙ load-of-free;
           begins = λ i h k. s .each i k .begin ∙ ap beginOf (behind i h k);
           ahead = ends-ahead s w l;
         }

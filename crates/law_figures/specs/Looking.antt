@@ -5,7 +5,7 @@ use mathlib.Core.Logic.{⊎-elim}
 use mathlib.Core.Bool.{Bool, true, false, cond, _&&_, _||_}
 use mathlib.Core.List.{List, [], _∷_, map-map}
 use Prim.Native.Nat.{ℕ, zero, suc, _+_, _*_, _-_, _≤_, _<_, zero-le}
-use native.Mathlib.Nat.{le-refl}
+use native.Mathlib.Nat.{le-refl, le-trans, le-of-eq}
 use native.Mathlib.Omega.{arith}
 use lib.Dec.{eqb}
 use lib.ListN.{length}
@@ -21,6 +21,7 @@ use Rattle.spec_model.specs.Tables.{heldOf}
 use Rattle.spec_rules.specs.Share.{load, overfull, stepB, loadOf}
 use Rattle.spec_rules.specs.Ahead.{renewed, settled, misses, fitsAhead}
 use Rattle.spec_rules.specs.WellFormed.{Tidy}
+use Rattle.law_model.specs.Loads.{load-of-free, load-of-standing}
 use Rattle.law_steps.specs.Places.{load-places}
 use Rattle.law_steps.specs.Closed.{takes}
 use Rattle.law_ahead.specs.Loop.{ahead-over, ahead-misses}
@@ -102,8 +103,8 @@ unfolding settled renewed
 settled-load e = go (eqb (e .«life_left» .0) 0) (isKind 2 e && eqb (e .left .0) 0)
   where
     go : (a b : Bool) → loadOf (cond a freeEntry (cond b (renewed e) e)) ≤ loadOf e
-    go true b = zero-le
-    go false true = le-refl (loadOf e)
+    go true b = rw load-of-free zero-le
+    go false true = rw (load-of-standing e) (le-refl (loadOf e))
     go false false = le-refl (loadOf e)
 
 ended-load : (n : ℕ) (t : Table) → load (ended n t .entries) ≤ load (t .entries)
@@ -114,7 +115,8 @@ ended-load n t =
       ap (sumOf loadOf) (map-map settled (λ e. later n (takes (n * E t) (t .entries) e) e) (t .entries)),
       sum-map loadOf (λ e. settled (later n (takes (n * E t) (t .entries) e) e)) (t .entries),
       sum-le (λ e. loadOf (settled (later n (takes (n * E t) (t .entries) e) e))) loadOf
-          (all-of (t .entries) (λ e. settled-load (later n (takes (n * E t) (t .entries) e) e))),
+          (all-of (t .entries)
+          (λ e. le-trans (settled-load (later n (takes (n * E t) (t .entries) e) e)) (le-of-eq (load-of-standing e _ _ _ _)))),
     )
 
 -- the laws of a turn, for any number of intervals

@@ -15,6 +15,7 @@ use Rattle.spec_model.specs.declared.Frame.{Frame}
 use Rattle.spec_rules.specs.Ahead.{renewed, settled}
 use Rattle.spec_rules.specs.WellFormed.{Held}
 use Rattle.spec_rules.specs.Share.{loadOf}
+use Rattle.law_model.specs.Loads.{load-of-free, load-of-standing}
 use Rattle.law_steps.specs.Held.{Fraction, Piece, held-kinds, held-is, piece-of, fraction-not}
 use Rattle.law_steps.specs.Ranks.{rank, Ranked, held-ranked, rankMost, held-rank, rankInterval, rank-free, rank-left, rank-most}
 use Rattle.law_ahead.specs.Served.{later, standing-same}
@@ -158,7 +159,7 @@ module _ (now n b : ℕ) (e : Entry) (f : Figures) (s : Shown now e f) (k : b �
     shown-on l = rw (other, later-on n b e h l) (record {
       owed = owed (isPiece e);
       end = ends ∙ sym (ap (λ c. cond c (at + eventIn (later n b e)) never) (held-is h) ∙ event (isPiece e) l);
-      load = s .load;
+      load = s .load ∙ sym (load-of-standing e _ _ _ _);
       begin = s .begin;
       life = λ q. s .life q ∙ sooner;
       soon = λ q. omega (arith, s .soon q, sooner);
@@ -202,7 +203,7 @@ module _ (now n b : ℕ) (e : Entry) (f : Figures) (s : Shown now e f) (k : b �
       shown-gone z = rw (due, eq-eqb (f .life .0) at (omega (arith, s .life (held-is h))), settled-free (later n b e) (omega arith)) (record {
         owed = refl;
         end = refl;
-        load = refl;
+        load = sym load-of-free;
         begin = refl;
         life = not-held;
         soon = not-held;
@@ -223,7 +224,7 @@ module _ (now n b : ℕ) (e : Entry) (f : Figures) (s : Shown now e f) (k : b �
           piece p = rw (due, ne-eqb (f .life .0) at lasting, settled-anew (later n b e) more whole over) (record {
             owed = s .begin ∙ rw (whole);
             end = sym (ap (λ c. cond c (at + eventIn (renewed (later n b e))) never) (held-is h) ∙ rw (whole, follows));
-            load = s .load;
+            load = s .load ∙ sym (load-of-standing (later n b e) _ _ _ _ ∙ load-of-standing e _ _ _ _);
             begin = s .begin;
             life = λ q. s .life q ∙ omega (arith, more);
             soon = λ q. omega (arith, s .soon q, more);

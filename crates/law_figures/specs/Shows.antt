@@ -25,6 +25,7 @@ use Rattle.spec_model.specs.declared.Frame.{Frame}
 use Rattle.spec_model.specs.Tables.{places, heldOf}
 use Rattle.spec_rules.specs.Share.{load, loadOf}
 use Rattle.spec_rules.specs.WellFormed.{Held, Tidy}
+use Rattle.law_model.specs.Loads.{load-of-free}
 use Rattle.law_steps.specs.Held.{Fraction, Piece, held-kinds, held-is, piece-of, fraction-not}
 use Rattle.law_steps.specs.Places.{load-places}
 use Rattle.law_ahead.specs.Leap.{eventIn}
@@ -96,7 +97,7 @@ module _ {now used : ℕ} {t : Table} {c : Columns} (s : Shows now used t c) (w 
   owed-spare = rw owed-shown (free-behind owedTo)
 
   loads-spare : Spare 0 used (c .loads)
-  loads-spare = rw loads-shown (free-behind loadOf)
+  loads-spare = rw loads-shown (subst (λ v. Spare v used (map loadOf (t .entries))) load-of-free (free-behind loadOf))
 
   -- what functions on the columns ask
   pub for-load : (used ≤ places) × ((length (c .loads) ≡ places) × Spare 0 used (c .loads))

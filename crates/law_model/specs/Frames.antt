@@ -1,5 +1,5 @@
 -- An interval, and what an opening makes of one. No other file opens these definitions. Assumes nothing.
-use mathlib.Core.Path.{_≡_, refl, sym, ap, _∙_}
+use mathlib.Core.Path.{_≡_, refl, ap, _∙_}
 use mathlib.Core.Bool.{Bool, true, false, cond, not}
 use Prim.Native.Nat.{ℕ, _*_, _≤_}
 use native.Mathlib.Omega.{arith}
@@ -9,7 +9,8 @@ use Rattle.spec_model.specs.Frames.{slotsIn, roomIn}
 use Rattle.spec_model.specs.Requests.{refusal}
 use Rattle.spec_model.specs.declared.Frame.{Frame}
 use Rattle.spec_model.specs.declared.Setting.{Setting}
-use Rattle.spec_rules.specs.Settings.{unitSlots, openAnswer, Succeeds, frameOf}
+use Rattle.spec_model.specs.Tables.{noneHeld}
+use Rattle.spec_rules.specs.Settings.{unitSlots, openAnswer, Succeeds, frameOf, opened}
 
 -- every slot may be given
 pub room-slots : (F : Frame) → roomIn F ≡ slotsIn F
@@ -36,6 +37,11 @@ units-opening s h = rw h
 pub frame-slots : (s : Setting) → slotsIn (frameOf s) ≡ unitSlots * s .units
 unfolding frameOf
 frame-slots s = refl
+
+-- a table in which no place is held
+pub opened-none : (s : Setting) → opened s ≡ noneHeld (frameOf s)
+unfolding opened
+opened-none s = refl
 
 module _ {F : Frame} (o : (s : Setting) × Succeeds s × (F ≡ frameOf s)) where
   slots : slotsIn F ≡ unitSlots * o .0 .units

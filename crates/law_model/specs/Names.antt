@@ -6,7 +6,6 @@ use mathlib.Core.Bool.{true, false, not}
 use Prim.Native.Nat.{_≤_, _<_, zero-le}
 use native.Mathlib.Decide.{ℕ-discrete, decLe}
 use native.Mathlib.Omega.{arith}
-use lib.Dec.{ltb}
 use borrow.Author.Tests.{eqb-true, eqb-false, eq-eqb, ne-eqb, ltb-true, le-ltb, lt-ltb}
 use Rattle.base_lists.specs.Tests.{eqb-refl, eqb-sym, within-both}
 use Rattle.spec_model.specs.Names.{same, lower, nameInRange, nobody, isNobody, nameRank, nameRoom}

@@ -2,10 +2,10 @@
 -- large the numbers of a table can get on the way. Assumes nothing.
 use mathlib.Core.Path.{_≡_, refl, sym, ap, subst, _∙_}
 use mathlib.Core.Logic.{_⊎_, inl, inr, ⊎-elim}
-use mathlib.Core.Bool.{true, false, cond}
+use mathlib.Core.Bool.{true, false}
 use mathlib.Core.List.{List, [], _∷_}
-use Prim.Native.Nat.{ℕ, _+_, _*_, _-_, _/_, _≤_, min, max, zero-le}
-use native.Mathlib.Nat.{mul-comm, mul-le-mul-left}
+use Prim.Native.Nat.{ℕ, _+_, _*_, _-_, _≤_, min, max, zero-le}
+use native.Mathlib.Nat.{le-trans, mul-comm, mul-le-mul-left}
 use native.Mathlib.Omega.{arith}
 use Rattle.spec_lists.specs.Lists.{sumOf}
 use Rattle.spec_lists.specs.All.{All}
@@ -25,10 +25,11 @@ use Rattle.spec_rules.specs.Share.{slotsFor, capacity, take-turns, stepB, remai
 use Rattle.spec_rules.specs.WellFormed.{Held, Once, Tidy}
 use Rattle.law_model.specs.Names.{same-refl}
 use Rattle.law_model.specs.Frames.{mostSlots, frame-most}
+use Rattle.law_model.specs.Loads.{load-of-none, load-of-free, load-of-most}
 use Rattle.law_steps.specs.Held.{Fraction, Piece, held-kinds, held-is, piece-of, fraction-not}
 use Rattle.law_steps.specs.Grants.{slots-none, slots-there}
 use Rattle.law_steps.specs.StepB.{stepBOf, owedBefore, all-order}
-use Rattle.law_steps.specs.Extras.{stepCOf, stepC-of}
+use Rattle.law_steps.specs.Extras.{weight-sum, stepCOf, stepC-of}
 use Rattle.law_steps.specs.Settled.{headroom-fraction, headroom-whole, headroom-transfer}
 use Rattle.law_steps.specs.Places.{tidy-held, held-sum, piece-places}
 
@@ -93,9 +94,9 @@ module _ (t : Table) (w : Tidy t) where
   -- W, place by place
   pub weight-places :
       weight everyone (stepB F es) es ≡ sumOf (λ e. jobCount e * headroom e (takes (capacity F es) (t .entries) e)) (t .entries)
-  unfolding weight
   weight-places =
-      sum-ext (λ e. jobCount e * headroom e (stepBOf F es e)) (λ e. jobCount e * headroom e (takes (capacity F es) (t .entries) e))
+      weight-sum everyone (stepB F es) es
+      ∙ sum-ext (λ e. jobCount e * headroom e (stepBOf F es e)) (λ e. jobCount e * headroom e (takes (capacity F es) (t .entries) e))
       (all-map (λ e h. ap (λ b. jobCount e * headroom e b) h) takes-held)
       ∙ sym (held-sum (λ e. jobCount e * headroom e (takes (capacity F es) (t .entries) e)) refl (w .entries))
 
@@ -123,10 +124,10 @@ module _ (t : Table) (w : Tidy t) where
 
   pub load-most : All (λ e. loadOf e ≤ mostSlots) (t .entries)
   load-most =
-      by-kind (λ e. loadOf e ≤ mostSlots) zero-le
-      (λ e f. rw (f .kind) (parts-most e f (e .min .0) (f .least)))
-      (λ e p k. rw k zero-le)
-      (λ e p k. rw k zero-le)
+      by-kind (λ e. loadOf e ≤ mostSlots) (rw load-of-free zero-le)
+      (λ e f. le-trans (load-of-most e) (parts-most e f (e .min .0) (f .least)))
+      (λ e p k. rw (load-of-none e (rw k)) zero-le)
+      (λ e p k. rw (load-of-none e (rw k)) zero-le)
 
   -- what an entry has been given in its period, with what it takes and an extra within its headroom, stays within its amounts
   pub had-most : (c : ℕ) (x : Entry → ℕ) → ((e : Entry) → x e ≤ headroom e (takes c (t .entries) e))

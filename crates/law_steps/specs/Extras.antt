@@ -23,6 +23,7 @@ use Rattle.spec_rules.specs.Share.{Grant, loadOf, load, slotsFor, stepB, remain
 use Rattle.spec_rules.specs.Share.{stepC}
 use Rattle.spec_rules.specs.Slots.{jobNeed}
 use Rattle.spec_rules.specs.WellFormed.{Once}
+use Rattle.law_model.specs.Loads.{load-of-fraction, load-of-none}
 use Rattle.law_steps.specs.Grants.{slots-map}
 use Rattle.law_steps.specs.StepB.{stepBOf, stepB-within, stepB-total, remains-rest}
 
@@ -86,6 +87,11 @@ extras-fit L t d es =
     W = sumOf (λ e. t e * d e) es
 
 -- ---- what remains, shared among those that take part
+pub weight-sum : (takesPart : Entry → Bool) (bs : List Grant) (es : List Entry)
+    → weight takesPart bs es ≡ sumOf (λ e. jobCount e * shareOf takesPart bs e) es
+unfolding weight
+weight-sum takesPart bs es = refl
+
 module _ (takesPart : Entry → Bool) (F : Frame) (es : List Entry) (w : Once es) where
   abbrev W : ℕ
   W = weight takesPart (stepB F es) es
@@ -149,7 +155,7 @@ all-fit F cs es w k l x =
     omega (
       arith,
       sum-ext (λ e. jobCount e * jobNeed (stepB F es) cs e) (λ e. (loadOf e + piece e) + extras e)
-          (all-map (λ e h. parts e (isKind 1 e) (isPiece e) h) k),
+          (all-map (λ e h. parts e (isKind 1 e) (isPiece e) refl h) k),
       sum-add (λ e. loadOf e + piece e) extras es,
       sum-add loadOf piece es,
       stepB-total F es w,
@@ -165,11 +171,13 @@ all-fit F cs es w k l x =
     extras : Entry → ℕ
     extras e = jobCount e * c e
 
-    parts : (e : Entry) (f p : Bool) → p ≡ not f
+    parts : (e : Entry) (f p : Bool) → isKind 1 e ≡ f → p ≡ not f
         → cond f (e .parts) 1 * cond f (asks e + c e) (stepBOf F es e + c e)
-        ≡ (cond f (e .parts * asks e) 0 + cond p (stepBOf F es e) 0) + cond f (e .parts) 1 * c e
-    parts e true p h = omega (arith, ap (λ b. cond b (stepBOf F es e) 0) h, mul-add (e .parts) (asks e) (c e))
-    parts e false p h = omega (arith, ap (λ b. cond b (stepBOf F es e) 0) h, one-mul (stepBOf F es e + c e), one-mul (c e))
+        ≡ (loadOf e + cond p (stepBOf F es e) 0) + cond f (e .parts) 1 * c e
+    parts e true p k h =
+        omega (arith, load-of-fraction e k, ap (λ b. cond b (stepBOf F es e) 0) h, mul-add (e .parts) (asks e) (c e))
+    parts e false p k h =
+        omega (arith, load-of-none e k, ap (λ b. cond b (stepBOf F es e) 0) h, one-mul (stepBOf F es e + c e), one-mul (c e))
 
 -- ---- step C, in which all take part
 module _ (F : Frame) (es : List Entry) (w : Once es) where

@@ -4,9 +4,8 @@ use mathlib.Core.Path.{_≡_, refl, sym, ap, _∙_}
 use mathlib.Core.Logic.{_⊎_, inl, inr}
 use mathlib.Core.Bool.{true, cond}
 use mathlib.Core.List.{List}
-use Prim.Native.Nat.{ℕ, _*_, _-_, min}
+use Prim.Native.Nat.{ℕ, _-_, min}
 use native.Mathlib.Omega.{arith}
-use lib.ListN.{length}
 use Rattle.spec_lists.specs.Lists.{keep, sumOf}
 use Rattle.spec_lists.specs.All.{All}
 use Rattle.base_lists.specs.Tests.{clash}
@@ -19,6 +18,7 @@ use Rattle.spec_model.specs.declared.Frame.{Frame}
 use Rattle.spec_model.specs.Tables.{heldOf}
 use Rattle.spec_rules.specs.Share.{load, capacity, remains}
 use Rattle.spec_rules.specs.WellFormed.{Held, Tidy}
+use Rattle.law_model.specs.Loads.{load-of-free}
 use Rattle.law_steps.specs.Held.{held-is}
 use Rattle.law_steps.specs.StepB.{stepBOf, owedBefore, stepB-total, stepB-closed, remains-rest}
 
@@ -47,7 +47,7 @@ module _ (t : Table) (w : Tidy t) where
 
   pub load-places : load (t .entries) ≡ load es
   unfolding load
-  load-places = held-sum _ refl (w .entries)
+  load-places = held-sum _ load-of-free (w .entries)
 
   pub owed-places : (x : Entry) → owedBefore x (t .entries) ≡ owedBefore x es
   owed-places x = held-sum _ refl (w .entries)

@@ -20,6 +20,7 @@ use Rattle.spec_model.specs.declared.Frame.{Frame}
 use Rattle.spec_rules.specs.Share.{loadOf, headroom}
 use Rattle.spec_rules.specs.Ahead.{standing, passed, renewed, settled}
 use Rattle.spec_rules.specs.WellFormed.{Held, Running}
+use Rattle.law_model.specs.Loads.{load-of-standing}
 use Rattle.law_steps.specs.Held.{Fraction, Piece, held-kinds, piece-of, piece-other, not-fraction}
 
 abbrev pub after : (b c : ℕ) → Entry → Entry
@@ -77,7 +78,7 @@ module _ (b c : ℕ) (e : Entry) where
   -- what stays takes of an interval what it took
   pub after-load : 2 ≤ e .«life_left» .0 → loadOf (after b c e) ≡ loadOf e
   unfolding renewed passed
-  after-load h = after-kept loadOf (loadOf e) refl refl h
+  after-load h = after-kept loadOf (loadOf e) (load-of-standing e _ _ _ _) (load-of-standing e _ _ _ _) h
 
   pub after-request : (after b c e ≡ freeEntry) ⊎ (requestOf (after b c e) ≡ requestOf e)
   unfolding renewed passed requestOf

@@ -9,7 +9,7 @@ use native.Mathlib.Nat.{mul-div-cancel}
 use native.Mathlib.Decide.{decLe}
 use native.Mathlib.Omega.{arith}
 use borrow.Author.Tests.{eq-eqb}
-use Rattle.base_edf.specs.Time.{due, due-in, due-out, due-zero}
+use Rattle.base_edf.specs.Time.{due, due-le, due-in, due-out, due-zero}
 use Rattle.base_edf.specs.Edf.{Source, source, rem, left, gone, next}
 use Rattle.base_edf.specs.Converse.{Sound}
 use Rattle.spec_model.specs.Entries.{freeEntry, isKind, isPiece, asks}
@@ -18,6 +18,7 @@ use Rattle.spec_model.specs.declared.Frame.{Frame}
 use Rattle.spec_rules.specs.Ahead.{passed, renewed}
 use Rattle.spec_rules.specs.WellFormed.{Held}
 use Rattle.spec_rules.specs.Share.{loadOf}
+use Rattle.law_model.specs.Loads.{load-of-fraction, load-of-none, load-of-free}
 use Rattle.law_steps.specs.Held.{Fraction, Piece, held-kinds, piece-of, not-fraction, fraction-not}
 use Rattle.law_steps.specs.Settled.{after, aged, after-last, after-life, after-load, FractionFate, ended, ages, fraction-fate, PieceFate}
 use Rattle.law_steps.specs.Settled.{over, anew, on, piece-fate}
@@ -108,21 +109,27 @@ held-sound {F} {e} h = ⊎-elim (λ f. rw (fraction-source e (f .kind)) (refl, r
 -- ---- the load
 pub load-free : (t : ℕ) → loadAt freeEntry t ≡ 0
 unfolding loadAt
-load-free t = due-zero (suc t) 0 0 refl
+load-free t = due-zero (suc t) 0 (loadOf freeEntry) load-of-free
 
 -- of any kind but 1
 pub load-none : (e : Entry) (t : ℕ) → isKind 1 e ≡ false → loadAt e t ≡ 0
 unfolding loadAt
-load-none e t k = due-zero (suc t) (e .«life_left» .0) (loadOf e) (rw k)
+load-none e t k = due-zero (suc t) (e .«life_left» .0) (loadOf e) (load-of-none e k)
 
 pub load-fraction : (e : Entry) (t : ℕ) → e .kind ≡ 1 → loadAt e t ≡ due (suc t) (e .«life_left» .0) (e .parts * asks e)
 unfolding loadAt
-load-fraction e t k = rw (eq-eqb (e .kind) 1 k)
+load-fraction e t k = ap (due (suc t) (e .«life_left» .0)) (load-of-fraction e (eq-eqb (e .kind) 1 k))
 
 -- the load that step A counts is that of the interval at hand
 pub load-now : {F : Frame} {e : Entry} → Held F e → loadOf e ≡ loadAt e 0
 unfolding loadAt
 load-now {e = e} h = sym (due-in 1 (e .«life_left» .0) (loadOf e) (h .alive))
+
+-- it never grows
+pub load-falls : {F : Frame} (t : ℕ) (e : Entry) → Held F e → loadAt e t ≤ loadAt e 0
+unfolding loadAt
+load-falls t e h =
+    omega (arith, due-le (suc t) (e .«life_left» .0) (loadOf e), due-in 1 (e .«life_left» .0) (loadOf e) (h .alive))
 
 -- an entry takes the same load until its life ends, and its life is one shorter
 pub load-next : (b c : ℕ) (e : Entry) (t : ℕ) → loadAt (after b c e) t ≡ loadAt e (suc t)

@@ -85,6 +85,9 @@ pub fn name_rank(name: Name) -> u64
     name.stream as u64
 }
 
+// Room for that number of a name in range.
+pub const NAME_ROOM: u64 = 65536;
+
 // ---- answers
 // What an offer answers.
 pub enum OfferAnswer {

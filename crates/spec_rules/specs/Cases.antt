@@ -12,9 +12,8 @@ use Rattle.spec_model.specs.Frames.{roomIn}
 use Rattle.spec_model.specs.Names.{same, lower, nameInRange}
 use Rattle.spec_model.specs.ByNumbers.{stream, setting, request}
 use Rattle.spec_model.specs.Entries.{entryOf}
-use Rattle.spec_model.specs.declared.Request.{Request}
 use Rattle.spec_model.specs.declared.Table.{Table}
-use Rattle.spec_rules.specs.Share.{Grant, load, slotsFor, order, take-turns, stepB, remains, weight, extra, shareAmong, everyone, stepC}
+use Rattle.spec_rules.specs.Share.{Grant, loadOf, load, slotsFor, order, take-turns, stepB, remains, weight, extra, shareAmong, everyone, stepC}
 use Rattle.spec_rules.specs.Slots.{jobsFrom, tieOrder, jobs, choose, slotsFrom, stepD, prepend, runsFrom, stepE}
 use Rattle.spec_rules.specs.Ahead.{passed, renewed, settled, stepF, goesWell, fitsAhead}
 use Rattle.spec_model.specs.Tables.{heldOf}
@@ -174,7 +173,7 @@ start = record { table = opened (setting 1); words = replicate planWords 0; coun
 
 pub cases-right : plays start cases ≡ true
 unfolding refusal fieldChecks entryOf roomIn same lower nameInRange
-    load slotsFor order take-turns stepB remains weight extra shareAmong stepC
+    loadOf load slotsFor order take-turns stepB remains weight extra shareAmong stepC
     jobsFrom tieOrder jobs choose slotsFrom stepD prepend runsFrom stepE
     passed renewed settled stepF goesWell fitsAhead
     openAnswer frameOf opened offerAnswer placed offered heldAnswer withdrawn wordsOfRun wordsOf recordAt recordsOf planOf advanced beacon

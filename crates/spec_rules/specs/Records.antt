@@ -2,7 +2,6 @@
 use Prim.Native.Nat.{ℕ, zero, suc, _*_}
 use mathlib.Core.List.{List, [], _∷_, _++_}
 use lib.ListN.{drop, getD}
-use Rattle.spec_model.specs.declared.Name.{Name}
 use Rattle.spec_rules.specs.Slots.{Run}
 
 -- the words of a record; the most records of a plan; the words of both

@@ -13,7 +13,7 @@ use Rattle.spec_model.specs.declared.Name.{Name}
 use Rattle.spec_model.specs.declared.Entry.{Entry}
 
 -- A. capacity: what an entry takes of every interval, m times min for kind 1
-abbrev pub loadOf : Entry → ℕ
+unfoldable pub loadOf : Entry → ℕ
 loadOf e = cond (isKind 1 e) (e .parts * asks e) 0
 
 unfoldable pub load : List Entry → ℕ

@@ -5,6 +5,7 @@ use mathlib.Core.List.{List, [], _∷_}
 use lib.Dec.{leb}
 use lib.ListN.{length, getD}
 use Rattle.spec_lists.specs.Lists.{sameList}
+use Rattle.spec_model.specs.ByNumbers.{stream}
 use Rattle.spec_model.specs.declared.Name.{Name}
 use Rattle.spec_model.specs.declared.Setting.{Setting}
 use Rattle.spec_model.specs.declared.Request.{Request}
@@ -47,7 +48,7 @@ abbrev pub settingFrom : List ℕ → Setting
 settingFrom ns = record { units = getD ns 0 0 }
 
 abbrev pub nameFrom : List ℕ → Name
-nameFrom ns = record { stream = getD ns 0 0 }
+nameFrom ns = stream (getD ns 0 0)
 
 abbrev pub requestFrom : List ℕ → Request
 requestFrom ns = record {

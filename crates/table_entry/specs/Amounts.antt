@@ -1,7 +1,7 @@
 -- What an entry takes of an interval, what it is owed, its jobs and what it may still get, as numbers that are 0 where an entry has none.
 -- Assumes nothing.
 use mathlib.Core.Bool.{cond}
-use Prim.Native.Nat.{ℕ, _*_}
+use Prim.Native.Nat.{ℕ}
 use Rattle.spec_model.specs.Entries.{isHeld, isPiece}
 use Rattle.spec_model.specs.declared.Entry.{Entry}
 use Rattle.spec_rules.specs.Share.{headroom, jobCount}

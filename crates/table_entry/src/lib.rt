@@ -57,20 +57,18 @@ pub fn is_piece(e: Entry) -> bool
     kind == 2 || kind == 3
 }
 
-// Room for a kind, and for the number of a name.
+// Room for a kind.
 pub const KIND_ROOM: u64 = 4;
 
-pub const NAME_ROOM: u64 = 65536;
-
 // One interval more.
-pub const RANK_INTERVAL: u64 = KIND_ROOM * NAME_ROOM;
+pub const RANK_INTERVAL: u64 = KIND_ROOM * spec_model::NAME_ROOM;
 
 // Fewest intervals left, then kind 2 before 3, then the lower name, as one number: the lower comes sooner.
 pub fn rank(left: Intervals, kind: u32, name: Name) -> u64
     ensures { λ r. ⌜ r ≡ (left .0 * kindRoom + kind) * nameRoom + nameRank name ⌝ }
 {
     let first = (left.0 as u64) * KIND_ROOM + (kind as u64);
-    first * NAME_ROOM + spec_model::name_rank(name)
+    first * spec_model::NAME_ROOM + spec_model::name_rank(name)
 }
 
 pub fn owed_of(e: Entry) -> Slots

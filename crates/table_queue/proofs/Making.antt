@@ -19,6 +19,7 @@ use Rattle.spec_model.specs.Tables.{places}
 use Rattle.spec_rules.specs.Share.{load, jobCount, loadOf}
 use Rattle.spec_rules.specs.WellFormed.{Tidy}
 use Rattle.law_model.specs.Frames.{mostSlots}
+use Rattle.law_model.specs.Loads.{load-of-free}
 use Rattle.law_steps.specs.Places.{load-places}
 use Rattle.law_steps.specs.Closed.{load-most}
 use Rattle.law_steps.specs.Ranks.{rank, rank-free}
@@ -114,7 +115,7 @@ module _ (t : Table) {vs : List Val} (p : Is T.the-row t vs) (w : Tidy t) where
             (map-at f (t .entries) i freeEntry 0 (inside t p h) ∙ ap f free)
 
         more : q .load ≡ summed loadOf (i + 1) (t .entries)
-        more = omega (arith, summed-more loadOf (t .entries) i freeEntry (inside t p h) (m .load) (sym (ap loadOf free)))
+        more = omega (arith, summed-more loadOf (t .entries) i freeEntry (inside t p h) (m .load) (sym (ap loadOf free ∙ load-of-free)))
 
   -- all places are read
   pub making-all : {i : ℕ} {q : Queue} → Making t i q → places ≤ i → Queued t q

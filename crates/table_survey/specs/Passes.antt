@@ -25,9 +25,8 @@ use Rattle.spec_rules.specs.WellFormed.{Held, Tidy}
 use Rattle.law_model.specs.Frames.{mostSlots}
 use Rattle.law_steps.specs.Held.{held-is}
 use Rattle.table_queue.specs.Queues.{largest32, Used}
-use Rattle.law_ahead.specs.Even.{evenly}
 use Rattle.table_survey.specs.declared.Survey.{Survey}
-use Rattle.ahead_even.specs.Need.{evenNeed}
+use Rattle.ahead_even.specs.Need.{evenNeed, need-free}
 use Rattle.table_places.specs.Search.{isHeldAs, held-as}
 use Rattle.table_survey.specs.Free.{isFree}
 
@@ -110,11 +109,10 @@ passed-more {name} {i} {es} {s} {r} d h z p e m =
 
 -- a free place of a table needs nothing
 pub free-needs : (t : Table) → Tidy t → All (λ e. isFree e ≡ true → evenNeed e ≡ 0) (t .entries)
-unfolding evenNeed evenly
 free-needs t w = all-map one (w .entries)
   where
     one : (e : Entry) → (e ≡ freeEntry) ⊎ Held (t .frame) e → isFree e ≡ true → evenNeed e ≡ 0
-    one e (inl z) f = ap evenNeed z
+    one e (inl z) f = ap evenNeed z ∙ need-free
     one e (inr h) f = absurd (clash (isFree e) f (ap not (held-is h)))
 
 -- what a whole pass has found

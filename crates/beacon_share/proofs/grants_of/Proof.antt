@@ -1,6 +1,6 @@
 -- `beacon_share::grants_of` meets its contract. The invariant: the first i places have what they get, and the others nothing. The measure is
 -- the number of places left. Assumes nothing.
-use mathlib.Core.Path.{_≡_, sym, ap, ap₂, _∙_}
+use mathlib.Core.Path.{_≡_, sym, ap, _∙_}
 use mathlib.Core.List.{List}
 use Prim.Native.Nat.{ℕ, _-_}
 use native.Mathlib.Omega.{arith}

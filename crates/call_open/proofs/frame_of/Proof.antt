@@ -6,12 +6,12 @@ use Rattle.law_model.specs.Frames.{opening-units}
 use Rattle.call_open.proofs.frame_of.Statement.{statement}
 use Rattle.call_open.proofs.frame_of.Tie as tie
 
-mul-t3 : tie.Need-mul-t3
-mul-t3 c = (let s = c .before .args .s in search (needs, within-both 1 1000 (s .units) (opening-units s (c .before .pre))))
+mul-count : tie.Need-mul-count
+mul-count c = (let s = c .before .args .s in search (needs, within-both 1 1000 (s .units) (opening-units s (c .before .pre))))
 
 returns : tie.Need-returns
 unfolding frameOf
 returns c = refl
 
 pub frame-of-spec : {M : Type 1} → statement M
-frame-of-spec = tie.close (tie.spec mul-t3 returns)
+frame-of-spec = tie.close (tie.spec mul-count returns)
