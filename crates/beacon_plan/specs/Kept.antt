@@ -1,7 +1,7 @@
 -- What is kept of each row as its jobs run: its first unfinished job, and when that is released. Assumes nothing.
 use mathlib.Core.Path.{_≡_, refl, sym, ap, _∙_}
 use mathlib.Core.List.{List, [], _∷_, map}
-use Prim.Native.Nat.{ℕ, zero, suc, _≤_, _<_}
+use Prim.Native.Nat.{ℕ, zero, suc, _-_, _≤_, _<_}
 use native.Mathlib.Omega.{arith}
 use lib.ListN.{length, getD, set, drop, replicate, length-map}
 use lib.Seq.{map-set-same, getD-set-same}
@@ -46,47 +46,55 @@ releases-spare (suc n) [] hs q = stop
 releases-spare (suc n) (T ∷ Ts) [] q = stop
 releases-spare (suc n) (T ∷ Ts) (h ∷ hs) q = releases-spare n Ts hs q
 
--- ---- heads and releases as the jobs run; the rows from `rows` on need nothing
-pub record Kept (rows : ℕ) (Ts : List ℕ) (nss : List (List ℕ)) (hs rs : List ℕ) : Type 0 where
+-- ---- heads and releases as the jobs run
+pub record Firsts (Ts : List ℕ) (nss : List (List ℕ)) (hs rs : List ℕ) : Type 0 where
   pub heads : hs ≡ map firstLeft nss
   pub releases : rs ≡ releasesOf Ts hs
-  pub spare : All (λ ns. ns ≡ replicate 16 0) (drop rows nss)
 
-module _ {rows : ℕ} {Ts : List ℕ} {nss : List (List ℕ)} {hs rs : List ℕ} (k : Kept rows Ts nss hs rs) where
-  heads-sized : length hs ≡ length nss
+-- the rows from `rows` on need nothing
+abbrev pub Spared : (rows : ℕ) → List (List ℕ) → Type 0
+Spared rows nss = All (λ ns. ns ≡ replicate 16 0) (drop rows nss)
+
+-- and no job of theirs runs
+pub spared-less : (rows : ℕ) (nss : List (List ℕ)) (i j n : ℕ) → 1 ≤ needAt nss i j → Spared rows nss
+    → Spared rows (withNeed nss i j (needAt nss i j - n))
+spared-less rows nss i j n = spare-set rows nss i j (set (getD nss i []) j (needAt nss i j - n))
+
+-- what the first unfinished job of a row needs
+abbrev pub headNeed : List (List ℕ) → List ℕ → ℕ → ℕ
+headNeed nss hs i = needAt nss i (getD hs i 0)
+
+module _ {Ts : List ℕ} {nss : List (List ℕ)} {hs rs : List ℕ} (k : Firsts Ts nss hs rs) where
+  pub heads-sized : length hs ≡ length nss
   heads-sized = ap length (k .heads) ∙ length-map nss firstLeft
 
-  pub kept-padded : length Ts ≡ places → length nss ≡ places → rows ≤ places → Padded rows noRelease rs
-  kept-padded u v l = (
+  pub firsts-padded : {rows : ℕ} → Spared rows nss → length Ts ≡ places → length nss ≡ places → rows ≤ places
+      → Padded rows noRelease rs
+  firsts-padded {rows} q u v l = (
     ap length (k .releases) ∙ length-releases Ts hs (u ∙ sym v ∙ sym heads-sized) ∙ heads-sized ∙ v,
-    (l, rw (k .releases, k .heads) (releases-spare rows Ts (map firstLeft nss) (heads-spare rows nss (k .spare)))),
+    (l, rw (k .releases, k .heads) (releases-spare rows Ts (map firstLeft nss) (heads-spare rows nss q))),
   )
 
   -- Job j of row i has run, and v slots of it are left; hs′ and rs′ are the heads and the releases then.
-  module _ (i j v : ℕ) (q : 1 ≤ needAt nss i j) {hs′ rs′ : List ℕ} where
+  module _ (i j v : ℕ) {hs′ rs′ : List ℕ} where
     -- the first unfinished job of the row is looked for
-    pub kept-changed : {h r : ℕ} → i < length nss → h ≡ firstLeft (getD (withNeed nss i j v) i [])
-        → r ≡ releaseOf (getD Ts i 0) (getD (set hs i h) i 0) → hs′ ≡ set hs i h → rs′ ≡ set rs i r
-        → Kept rows Ts (withNeed nss i j v) hs′ rs′
-    kept-changed {h} {r} l e f x y =
+    pub firsts-changed : {h r : ℕ} → i < length nss → h ≡ firstLeft (getD (withNeed nss i j v) i [])
+        → r ≡ releaseOf (getD Ts i 0) h → hs′ ≡ set hs i h → rs′ ≡ set rs i r → Firsts Ts (withNeed nss i j v) hs′ rs′
+    firsts-changed {h} {r} l e f x y =
         let ns : List ℕ = set (getD nss i []) j v in
         let head : h ≡ firstLeft ns = e ∙ ap firstLeft (getD-set-same nss i ns [] l) in
-        let release : r ≡ releaseOf (getD Ts i 0) h =
-        f ∙ ap (releaseOf (getD Ts i 0)) (getD-set-same hs i h 0 (omega (arith, heads-sized))) in
         record {
           heads = x ∙ rw (k .heads, head) (sym (heads-set nss i ns));
-          releases = y ∙ rw (k .releases, release, x) (sym (releases-set Ts hs i h));
-          spare = spare-set rows nss i j ns q (k .spare);
+          releases = y ∙ rw (k .releases, f, x) (sym (releases-set Ts hs i h));
         }
 
     -- where it still needs something it is the first
-    pub kept-same : j ≡ getD hs i 0 → 1 ≤ v → hs′ ≡ hs → rs′ ≡ rs → Kept rows Ts (withNeed nss i j v) hs′ rs′
-    kept-same e l x y =
+    pub firsts-same : j ≡ getD hs i 0 → 1 ≤ v → hs′ ≡ hs → rs′ ≡ rs → Firsts Ts (withNeed nss i j v) hs′ rs′
+    firsts-same e l x y =
         let ns : List ℕ = getD nss i [] in
         let first : j ≡ firstLeft ns = e ∙ ap (λ xs. getD xs i 0) (k .heads) ∙ head-at nss i in
         let same : firstLeft (set ns j v) ≡ firstLeft ns = rw first (left-stays ns v l) in
         record {
           heads = x ∙ k .heads ∙ sym (map-set-same firstLeft nss i (set ns j v) [] same);
           releases = y ∙ k .releases ∙ ap (releasesOf Ts) (sym x);
-          spare = spare-set rows nss i j _ q (k .spare);
         }

@@ -7,5 +7,5 @@ pub mod Places
 pub mod Kept
 pub mod Next
 pub mod Turns
-pub mod Pens
+pub mod Pending
 pub mod Steps

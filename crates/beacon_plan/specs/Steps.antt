@@ -22,17 +22,17 @@ use Rattle.law_slots.specs.Events.{lessBy, spent, Quiet, joined, idle-on, runs-
 use Rattle.law_model.specs.Frames.{mostSlots}
 use Rattle.law_model.specs.Records.{length-words}
 use Rattle.plan_record.specs.Recorded.{recorded, recorded-after}
-use Rattle.beacon_plan.specs.declared.Pen.{Pen}
+use Rattle.plan_record.specs.declared.Pen.{Pen}
+use Rattle.plan_record.specs.Pens.{named, blank, openRun, endOf, closed, extended, extended-count, extended-ends}
 use Rattle.beacon_plan.specs.Rows.{fewRuns, unfinished, rowJobs, rowPlan, Length, Rows}
 use Rattle.beacon_plan.specs.Skipped.{Skipped, Changed, skipped-done, keys-spent, changed-spent, run-changed}
 use Rattle.beacon_plan.specs.RowLaws.{Wide, needAt, withNeed, jobIn, in-row, rows-changed, wide-with}
 use Rattle.beacon_plan.specs.Heads.{head-at}
 use Rattle.beacon_plan.specs.Places.{Short, short, releasesOf, chosenAt, heldBy, headIn, place-chosen}
-use Rattle.beacon_plan.specs.Kept.{Kept}
+use Rattle.beacon_plan.specs.Kept.{Firsts}
 use Rattle.beacon_plan.specs.Next.{nextOf, next-ahead, next-quiet}
 use Rattle.beacon_plan.specs.Turns.{turns, next-turn, job-turn}
-use Rattle.beacon_plan.specs.Pens.{named, blank, openRun, pending, endOf, closed, extended, pending-end, pending-blank, extended-pending}
-use Rattle.beacon_plan.specs.Pens.{extended-count, extended-ends}
+use Rattle.beacon_plan.specs.Pending.{pending, pending-end, pending-blank, extended-pending}
 
 -- the runs from t on
 abbrev toRun : (b t : ℕ) → List Job → List Run
@@ -117,7 +117,7 @@ module _ {b t : ℕ} {ss : List Name} {Ts : List ℕ} {total : List Run} {old ws
       )
 
   -- the place chosen: its first unfinished job is the choice, and one of its sixteen; or it is none
-  module _ (h : t < b) {rows : ℕ} {hs rs : List ℕ} (k : Kept rows Ts nss hs rs) {i : ℕ} (f : i ≡ chosenAt t Ts rs) where
+  module _ (h : t < b) {hs rs : List ℕ} (k : Firsts Ts nss hs rs) {i : ℕ} (f : i ≡ chosenAt t Ts rs) where
     held : heldBy (headIn ss Ts nss) i ≡ choose t (rowJobs ss Ts nss)
     held =
         let g = s .given in

@@ -4,33 +4,26 @@
 // change where it ends. A turn ends a job, or comes to a release or to the end: there are at most 993 of them (specs/Turns.antt).
 ghost use mathlib.Core.Path.{_≡_};
 ghost use mathlib.Core.List.{[], _++_, map};
-ghost use Prim.Native.Nat.{_+_, _*_, _≤_, _<_};
+ghost use Prim.Native.Nat.{_+_, _*_, _-_, _≤_, _<_, min};
 ghost use lib.ListN.{length, drop, getD, set, replicate};
 ghost use Rattle.spec_lists.specs.All.{All};
 ghost use Rattle.spec_model.specs.Frames.{slotsIn};
 ghost use Rattle.spec_model.specs.Tables.{places};
 ghost use Rattle.spec_rules.specs.Records.{recordWords, mostRecords, planWords, wordsOf};
 ghost use Rattle.law_model.specs.Frames.{mostSlots};
-ghost use Rattle.plan_record.specs.Recorded.{recorded};
 ghost use Rattle.beacon_plan.specs.Rows.{Length, Rows, Padded, Spare, rowPlan};
 ghost use Rattle.beacon_plan.specs.Needs.{Counted, needsRow, needRows};
+ghost use Rattle.beacon_plan.specs.RowLaws.{Wide, withNeed};
 ghost use Rattle.beacon_plan.specs.Heads.{firstLeft};
+ghost use Rattle.beacon_plan.specs.Kept.{Firsts, headNeed};
 ghost use Rattle.beacon_plan.specs.Next.{nextOf};
 ghost use Rattle.beacon_plan.specs.Places.{Short, noRelease, releaseOf, releasesOf, chosenAt};
-ghost use Rattle.beacon_plan.specs.Pens.{blank, named, openRun, grows, closed, extended};
-use plan_record::Record;
 use spec_model::Frame;
 use spec_model::Name;
 use spec_model::Slots;
 
 // Later than any job of an interval is due.
 const NO_RELEASE: u32 = 4294967295;
-
-// How many records are written, and the run that may still grow: none where its length is 0.
-struct Pen {
-    count: usize,
-    run: Record,
-}
 
 // The first release after t of any row's jobs; at most b, the end. Rows as long as the interval release none before it.
 fn next_release(b: Slots, rows: usize, lengths: &[u32; 32], t: Slots) -> Slots
@@ -150,73 +143,35 @@ fn choose_place(t: Slots, rows: usize, lengths: &[u32; 32], releases: &[u32; 32]
     place
 }
 
-// The run that may still grow is written; how many records there are then.
-fn put_run(pen: Pen, plan: &mut [u32]) -> usize
-    requires { ⌜ recordWords * (pen .count + 1) ≤ length (now plan) ⌝ }
-    ensures { λ r. ⌜ (r ≡ pen .count + length (openRun pen))
-        × (now (plan .exit) ≡ recorded (pen .count) (openRun pen) (now (plan .entry))) ⌝ }
+// The first unfinished job of row i runs for what it needs, at most so many slots: for how many. Where it ends, the next is its row's first.
+fn run_job(
+    left: &mut [[u32; 16]; 32],
+    heads: &mut [usize; 32],
+    releases: &mut [u32; 32],
+    lengths: &[u32; 32],
+    i: usize,
+    most: Slots,
+) -> Slots
+    requires { ⌜ (i < places) × ((length (now lengths) ≡ places) × Short (now lengths)) ⌝ }
+    requires { ⌜ (length (now left) ≡ places) × Wide (now left) ⌝ }
+    requires { ⌜ Firsts (now lengths) (now left) (now heads) (now releases) × (1 ≤ headNeed (now left) (now heads) i) ⌝ }
+    ensures { λ r. let need = headNeed (now (left .entry)) (now (heads .entry)) i in
+        ⌜ (r .0 ≡ min need (most .0))
+        × ((now (left .exit) ≡ withNeed (now (left .entry)) i (getD (now (heads .entry)) i 0) (need - r .0))
+        × Firsts (now (lengths .entry)) (now (left .exit)) (now (heads .exit)) (now (releases .exit))) ⌝ }
 {
-    let count = pen.count;
-    let run = pen.run;
-    if run.length.0 == 0 {
-        return count;
+    let j = heads[i];
+    let need = left[i][j];
+    let n = base_numbers::smaller(need, most.0);
+    left[i][j] = need - n;
+    if need == n {
+        let row = left[i];
+        let first = first_left(row);
+        heads[i] = first;
+        let release = release_of(Slots(lengths[i]), first);
+        releases[i] = release.0;
     }
-    plan_record::write_record(plan, count, run);
-    count + 1
-}
-
-// The run goes on in slot t, where that is the job's.
-fn run_grows(run: Record, name: Name, job: u32, t: Slots) -> bool
-    requires { ⌜ run .start .0 + run .length .0 ≤ t .0 ⌝ }
-    ensures { λ r. ⌜ r ≡ grows run (named name job) (t .0) ⌝ }
-{
-    if !spec_model::same(name, run.name) {
-        return false;
-    }
-    if job != run.job {
-        return false;
-    }
-    t.0 == run.start.0 + run.length.0
-}
-
-// n slots from t on go to a job: the run grows, or it is written and another begins.
-fn extend_run(pen: Pen, plan: &mut [u32], name: Name, job: u32, t: Slots, n: Slots) -> Pen
-    requires { ⌜ (recordWords * (pen .count + 1) ≤ length (now plan)) × (pen .run .start .0 + pen .run .length .0 ≤ t .0) ⌝ }
-    requires { ⌜ t .0 + n .0 ≤ mostSlots ⌝ }
-    ensures { λ r. ⌜ (r ≡ extended pen (named name job) (t .0) (n .0))
-        × (now (plan .exit) ≡ recorded (pen .count) (closed pen (named name job) (t .0)) (now (plan .entry))) ⌝ }
-{
-    let mut run = pen.run;
-    if run_grows(run, name, job, t) {
-        let count = pen.count;
-        let longer = run.length.0 + n.0;
-        run.length.0 = longer;
-        return Pen { count, run };
-    }
-    let count = put_run(pen, plan);
-    let next = Record {
-        name,
-        job,
-        start: t,
-        length: n,
-    };
-    Pen { count, run: next }
-}
-
-// No record yet, and no run.
-fn blank_pen() -> Pen
-    ensures { λ r. ⌜ r ≡ blank ⌝ }
-{
-    let free = spec_model::free_entry();
-    let name = free.name;
-    let none = Slots(0);
-    let run = Record {
-        name,
-        job: 0,
-        start: none,
-        length: none,
-    };
-    Pen { count: 0, run }
+    Slots(n)
 }
 
 // The records of the plan in the first words, and how many there are, where row i has counts[i] jobs that need each[i] slots. Every later
@@ -245,7 +200,7 @@ pub fn write_plan(
     fill_heads(&mut heads, rows, &left);
     let mut releases = [NO_RELEASE; spec_model::PLACES];
     fill_releases(&mut releases, rows, lengths, &heads);
-    let mut pen = blank_pen();
+    let mut pen = plan_record::blank_pen();
     let mut t = Slots(0);
     let mut next = Slots(0);
     while t.0 < b.0 {
@@ -253,20 +208,20 @@ pub fn write_plan(
         let i = choose_place(t, rows, lengths, &releases);
         if i < spec_model::PLACES {
             let j = heads[i];
-            let need = left[i][j];
-            let n = base_numbers::smaller(need, next.0 - t.0);
-            left[i][j] = need - n;
-            if need == n {
-                heads[i] = first_left(left[i]);
-                let release = release_of(Slots(lengths[i]), heads[i]);
-                releases[i] = release.0;
-            }
+            let n = run_job(
+                &mut left,
+                &mut heads,
+                &mut releases,
+                lengths,
+                i,
+                Slots(next.0 - t.0),
+            );
             let name = names[i];
-            pen = extend_run(pen, plan, name, j as u32, t, Slots(n));
-            t = Slots(t.0 + n);
+            pen = plan_record::extend_run(pen, plan, name, j as u32, t, n);
+            t = Slots(t.0 + n.0);
         } else {
             t = next;
         }
     }
-    put_run(pen, plan)
+    plan_record::put_run(pen, plan)
 }

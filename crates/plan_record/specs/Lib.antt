@@ -1,2 +1,3 @@
 pub mod Recorded
 pub mod Starts
+pub mod Pens

@@ -1,12 +1,14 @@
 // A record of a plan, as words of lent memory: one function writes its words, one reads them back. In code only these two know which word is
-// which. Document 01, "One beacon", step E.
+// which. And the pen, which writes runs as records: slots of one job, one after the other, are one. Document 01, "One beacon", step E.
 ghost use mathlib.Core.Path.{_≡_};
 ghost use mathlib.Core.List.{[], _∷_};
 ghost use Prim.Native.Nat.{_+_, _*_, _≤_};
 ghost use lib.ListN.{length, drop};
 ghost use Rattle.spec_rules.specs.Records.{recordWords, recordAt};
+ghost use Rattle.law_model.specs.Frames.{mostSlots};
 ghost use Rattle.plan_record.specs.Recorded.{runOf, recorded};
 ghost use Rattle.plan_record.specs.Starts.{startAt};
+ghost use Rattle.plan_record.specs.Pens.{blank, named, openRun, grows, closed, extended};
 use spec_model::Name;
 use spec_model::Slots;
 
@@ -25,6 +27,12 @@ pub struct Record {
     pub job: u32,
     pub start: Slots,
     pub length: Slots,
+}
+
+// How many records are written, and the run that may still grow: none where its length is 0.
+pub struct Pen {
+    pub count: usize,
+    pub run: Record,
 }
 
 // The n-th record of a plan; every other word stays as it was.
@@ -63,4 +71,73 @@ pub fn start_of(plan: &[u32], n: usize) -> Slots
 {
     let r = read_record(plan, n);
     r.start
+}
+
+// The run that may still grow is written; how many records there are then.
+pub fn put_run(pen: Pen, plan: &mut [u32]) -> usize
+    requires { ⌜ recordWords * (pen .count + 1) ≤ length (now plan) ⌝ }
+    ensures { λ r. ⌜ (r ≡ pen .count + length (openRun pen))
+        × (now (plan .exit) ≡ recorded (pen .count) (openRun pen) (now (plan .entry))) ⌝ }
+{
+    let count = pen.count;
+    let run = pen.run;
+    if run.length.0 == 0 {
+        return count;
+    }
+    write_record(plan, count, run);
+    count + 1
+}
+
+// The run goes on in slot t, where that is the job's.
+fn run_grows(run: Record, name: Name, job: u32, t: Slots) -> bool
+    requires { ⌜ run .start .0 + run .length .0 ≤ t .0 ⌝ }
+    ensures { λ r. ⌜ r ≡ grows run (named name job) (t .0) ⌝ }
+{
+    if !spec_model::same(name, run.name) {
+        return false;
+    }
+    if job != run.job {
+        return false;
+    }
+    t.0 == run.start.0 + run.length.0
+}
+
+// n slots from t on go to a job: the run grows, or it is written and another begins.
+pub fn extend_run(pen: Pen, plan: &mut [u32], name: Name, job: u32, t: Slots, n: Slots) -> Pen
+    requires { ⌜ (recordWords * (pen .count + 1) ≤ length (now plan)) × (pen .run .start .0 + pen .run .length .0 ≤ t .0) ⌝ }
+    requires { ⌜ t .0 + n .0 ≤ mostSlots ⌝ }
+    ensures { λ r. ⌜ (r ≡ extended pen (named name job) (t .0) (n .0))
+        × (now (plan .exit) ≡ recorded (pen .count) (closed pen (named name job) (t .0)) (now (plan .entry))) ⌝ }
+{
+    let mut run = pen.run;
+    if run_grows(run, name, job, t) {
+        let count = pen.count;
+        let longer = run.length.0 + n.0;
+        run.length.0 = longer;
+        return Pen { count, run };
+    }
+    let count = put_run(pen, plan);
+    let next = Record {
+        name,
+        job,
+        start: t,
+        length: n,
+    };
+    Pen { count, run: next }
+}
+
+// No record yet, and no run.
+pub fn blank_pen() -> Pen
+    ensures { λ r. ⌜ r ≡ blank ⌝ }
+{
+    let free = spec_model::free_entry();
+    let name = free.name;
+    let none = Slots(0);
+    let run = Record {
+        name,
+        job: 0,
+        start: none,
+        length: none,
+    };
+    Pen { count: 0, run }
 }

@@ -66,6 +66,15 @@ module _ (row : List ℕ) where
   unfolding commandOf
   row-long h = rw (lt-leb (length row) rowMost h)
 
+  -- a row of an unknown verb, whatever its fields are
+  pub row-unknown : (v : Verb) {end : ℕ} → length row ≤ rowMost → end ≡ toComma row → v ≡ verbOf (take end row) → v ≡ verb.Unknown
+      → OtherForm ≡ commandOf row
+  unfolding commandOf fromFields
+  row-unknown v {end} h e f u =
+      let fs = fieldsAfter (drop end row) in
+      rw (le-leb (length row) rowMost h, fields-first row, ← e, called-asked fs (take end row), ← f, u)
+      (sym (cond-same (hasFields beaconForm fs) OtherForm))
+
   module _ (v : Verb) (ns : Numbers) {end : ℕ} {form : List Field} (h : length row ≤ rowMost) (e : end ≡ toComma row)
       (f : v ≡ verbOf (take end row)) (g : form ≡ formOf v) (k : ns ≡ fieldsRead form (fieldsAfter (part end (length row) row))) where
     is-read : byVerb v ns ≡ commandOf row

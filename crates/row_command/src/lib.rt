@@ -126,6 +126,9 @@ pub fn command_of(row: &[u8]) -> Command
     }
     let end = row_fields::first_comma(row);
     let verb = verb_of(&row[..end]);
+    if let Verb::Unknown = verb {
+        return Command::OtherForm;
+    }
     let numbers = row_fields::read_fields(&row[end..], form_of(verb));
     if !numbers.good {
         return Command::OtherForm;

@@ -29,12 +29,12 @@ pub fn queue_of(t: Table) -> Queue
     for i in 0..spec_model::PLACES {
         let e = t.entries[i];
         if !spec_model::is_nobody(e.name) {
-            used = i + 1;
-            load = load + table_entry::load_of(e);
             ranks[i] = table_entry::rank(e.left, e.kind, e.name);
             owed[i] = table_entry::owed_of(e).0;
             limits[i] = table_entry::limit_of(e).0;
             jobs[i] = table_entry::job_count(e);
+            load = load + table_entry::load_of(e);
+            used = i + 1;
         }
     }
     Queue {

@@ -10,12 +10,12 @@ use Rattle.base_lists.specs.All.{all-at}
 use Rattle.law_model.specs.Frames.{mostSlots}
 use Rattle.beacon_plan.specs.Rows.{Padded}
 use Rattle.beacon_plan.specs.Heads.{firstLeft, heads-padded}
-use Rattle.beacon_plan.specs.Kept.{kept-padded}
+use Rattle.beacon_plan.specs.Kept.{firsts-padded, spared-less}
 use Rattle.beacon_plan.specs.Next.{next-same}
 use Rattle.beacon_plan.specs.Steps.{lengths-short, begin, finish}
 use Rattle.beacon_plan.specs.Steps.{idle-less, idle-step, job-less, job-step}
 use Rattle.beacon_plan.proofs.write_plan.Proof.Turn.{Inv-loop, μ-loop, entry, end, Ts, given, rows-sized, made-padded, few, spare}
-use Rattle.beacon_plan.proofs.write_plan.Proof.Turn.{at, within, ahead, turn, place, number, chosen, job, ran, kept, after, run, idle}
+use Rattle.beacon_plan.proofs.write_plan.Proof.Turn.{at, within, ahead, turn, place, number, chosen, needs-some, job, ran, run, idle}
 use Rattle.beacon_plan.proofs.write_plan.Statement.{statement}
 use Rattle.beacon_plan.proofs.write_plan.Tie as tie
 
@@ -48,7 +48,7 @@ loop-holds c =
     let filled = f .fill-rows .ensures in
     let r = c .before .fill-releases .ensures in (
       rw filled (begin (z .args .plan .now) (z .pre .0 .0) (given z) (rows-sized z .0) (rows-sized z .1) (c .blank-pen .ensures)),
-      (record { heads = h .fill-heads .ensures; releases = r; spare = rw filled (made-padded z .1 .1) }, λ h. absurd (omega arith)),
+      ((record { heads = h .fill-heads .ensures; releases = r }, rw filled (made-padded z .1 .1)), λ h. absurd (omega arith)),
     )
 
 next-after-requires : tie.Need-next-after-requires Inv-loop μ-loop
@@ -65,7 +65,7 @@ choose-place-requires c κs =
     let l = at w in
     let g = given (entry l) in (
       (omega (arith, w .if1 .taken, g .short), (g .lengths, lengths-short g)),
-      kept-padded (l .loop .inv .1 .0) (g .lengths) (l .loop .inv .0 .rows) (entry l .pre .1 .0 .0),
+      firsts-padded (l .loop .inv .1 .0 .0) (l .loop .inv .1 .0 .1) (g .lengths) (l .loop .inv .0 .rows) (entry l .pre .1 .0 .0),
     )
 
 mul-j : tie.Need-mul-j Inv-loop μ-loop
@@ -74,120 +74,67 @@ mul-j c = search needs
 array-read-j : tie.Need-array-read-j Inv-loop μ-loop
 array-read-j c = search needs
 
-mul-need : tie.Need-mul-need Inv-loop μ-loop
-mul-need c = search needs
+sub-extend-run : tie.Need-sub-extend-run Inv-loop μ-loop
+sub-extend-run c = omega (arith, ahead (c .before .before .before .before .before .before))
 
-mul-need-2 : tie.Need-mul-need-2 Inv-loop μ-loop
-mul-need-2 c = record { fits = omega (arith, chosen c .1) }
-
-index-1-need : tie.Need-index-1-need Inv-loop μ-loop
-index-1-need c = search needs
-
-index-2-need : tie.Need-index-2-need Inv-loop μ-loop
-index-2-need c = chosen c .1
-
-sub-smaller : tie.Need-sub-smaller Inv-loop μ-loop
-sub-smaller c = omega (arith, ahead (c .before .before .before .before))
-
-smaller-requires : tie.Need-smaller-requires Inv-loop μ-loop
-smaller-requires c κs = search needs
-
-sub-left : tie.Need-sub-left Inv-loop μ-loop
-sub-left c = omega (arith, ran c .0)
-
-mul-left : tie.Need-mul-left Inv-loop μ-loop
-mul-left c = search needs
-
-mul-left-2 : tie.Need-mul-left-2 Inv-loop μ-loop
-mul-left-2 c = record { fits = omega (arith, chosen (job c) .1) }
-
-index-1-left : tie.Need-index-1-left Inv-loop μ-loop
-index-1-left c = search needs
-
-index-2-left : tie.Need-index-2-left Inv-loop μ-loop
-index-2-left c = chosen (job c) .1
-
-mul-first-left : tie.Need-mul-first-left Inv-loop μ-loop
-mul-first-left c = search needs
-
-array-copy-out-first-left : tie.Need-array-copy-out-first-left Inv-loop μ-loop
-array-copy-out-first-left c = search needs
-
-first-left-requires : tie.Need-first-left-requires Inv-loop μ-loop
-first-left-requires c κs = search needs
-
-mul-heads : tie.Need-mul-heads Inv-loop μ-loop
-mul-heads c = search needs
-
-array-write-heads : tie.Need-array-write-heads Inv-loop μ-loop
-array-write-heads c = search needs
-
-mul-t45 : tie.Need-mul-t45 Inv-loop μ-loop
-mul-t45 c = search needs
-
-element-copy-out-t55 : tie.Need-element-copy-out-t55 Inv-loop μ-loop
-element-copy-out-t55 c = search needs
-
-mul-release-of : tie.Need-mul-release-of Inv-loop μ-loop
-mul-release-of c = search needs
-
-array-read-release-of : tie.Need-array-read-release-of Inv-loop μ-loop
-array-read-release-of c = search needs
-
-release-of-requires : tie.Need-release-of-requires Inv-loop μ-loop
-release-of-requires c κs =
-    let o = job (c .before .before .before .before) in
-    let g = given (entry (turn o)) in
-    all-at (λ T. T ≤ mostSlots) (Ts (entry (turn o))) 0 (lengths-short g) (place o) (omega (arith, o .if2 .taken, g .lengths))
-
-mul-releases : tie.Need-mul-releases Inv-loop μ-loop
-mul-releases c = search needs
-
-array-write-releases : tie.Need-array-write-releases Inv-loop μ-loop
-array-write-releases c = search needs
+run-job-requires : tie.Need-run-job-requires Inv-loop μ-loop
+run-job-requires c κs =
+    let o = c .before .before .before .before .before in
+    let l = turn o in
+    let i = l .loop .inv in
+    let g = given (entry l) in
+    ((o .if2 .taken, (g .lengths, lengths-short g)), ((i .0 .rows, i .0 .wide), (i .1 .0 .0, needs-some o)))
 
 mul-name : tie.Need-mul-name Inv-loop μ-loop
-mul-name c = search (needs, job (c .before) .if2 .taken)
+mul-name c = search (needs, job c .if2 .taken)
 
 array-copy-out-name : tie.Need-array-copy-out-name Inv-loop μ-loop
-array-copy-out-name c = search (needs, job (c .before) .if2 .taken)
+array-copy-out-name c = search (needs, job c .if2 .taken)
 
 cast-extend-run : tie.Need-cast-extend-run Inv-loop μ-loop
-cast-extend-run c = record { fits = omega (arith, chosen (job (c .before .before .before)) .1) }
+cast-extend-run c = record { fits = omega (arith, chosen (job (c .before .before)) .1) }
 
 extend-run-requires : tie.Need-extend-run-requires Inv-loop μ-loop
 extend-run-requires c κs =
-    let s = c .before .before .before in
+    let s = c .before .before in
     let l = turn (job s) in
     ((spare l .1, l .loop .inv .0 .ended), omega (arith, ran s .1, ahead (job s .before), entry l .pre .0 .0 .short))
 
-add-t39 : tie.Need-add-t39 Inv-loop μ-loop
-add-t39 c =
-    let s = run (c .before) in
+add-t36 : tie.Need-add-t36 Inv-loop μ-loop
+add-t36 c =
+    let s = run (c .before .before) in
     let l = turn (job s) in
     record { fits = omega (arith, ran s .1, ahead (job s .before), entry l .pre .0 .0 .short) }
 
 loop-less : tie.Need-loop-less Inv-loop μ-loop
 loop-less c =
-    let s = run (c .before) in
+    let s = run (c .before .before) in
     let o = job s in
-    job-less (turn o .loop .inv .0) (within (o .before) .if1 .taken) (place o) (number o) (s .smaller .result) (ran s .0)
+    rw (s .run-job .ensures .1 .0) (
+    job-less (turn o .loop .inv .0) (within (o .before) .if1 .taken) (place o) (number o) (s .run-job .result .0) (ran s .0)
     (o .if2 .taken) (chosen o .1) (chosen o .0)
+    )
 
 loop-again : tie.Need-loop-again Inv-loop μ-loop
 loop-again c =
-    let r = c .before in
+    let r = c .before .before in
     let s = run r in
     let o = job s in
     let l = turn o in
     let m = o .before .before .before .next-after .ensures in
     let t = l .loop .t .0 in
-    let n = s .smaller .result in
+    let n = s .run-job .result .0 in
+    let left = s .run-job .ensures .1 .0 in
     let wrote = r .before .before .extend-run .ensures in (
-      job-step (l .loop .inv .0) (within (o .before) .if1 .taken) (place o) (number o) n (ran s .0) (o .if2 .taken)
-          (chosen o .1) (chosen o .0) (wrote .1) (wrote .0),
+      rw left (
+          job-step (l .loop .inv .0) (within (o .before) .if1 .taken) (place o) (number o) n (ran s .0) (o .if2 .taken)
+          (chosen o .1) (chosen o .0) (wrote .1) (wrote .0)
+          ),
       (
-        kept (after r),
+        (
+          s .run-job .ensures .1 .1,
+          rw left (spared-less (entry l .args .rows) (l .loop .left) (place o) (number o) n (needs-some o) (l .loop .inv .1 .0 .1)),
+        ),
         λ h. m ∙ next-same (end (entry l)) t (t + n) (Ts (entry l)) (omega arith) (omega (arith, h, m)),
       ),
     )
@@ -235,34 +182,13 @@ write-plan-spec =
     choose-place-requires
     mul-j
     array-read-j
-    mul-need
-    mul-need-2
-    index-1-need
-    index-2-need
-    sub-smaller
-    smaller-requires
-    sub-left
-    mul-left
-    mul-left-2
-    index-1-left
-    index-2-left
-    mul-first-left
-    array-copy-out-first-left
-    first-left-requires
-    mul-heads
-    array-write-heads
-    mul-t45
-    element-copy-out-t55
-    mul-release-of
-    array-read-release-of
-    release-of-requires
-    mul-releases
-    array-write-releases
+    sub-extend-run
+    run-job-requires
     mul-name
     array-copy-out-name
     cast-extend-run
     extend-run-requires
-    add-t39
+    add-t36
     loop-less
     loop-again
     loop-less-2

@@ -28,25 +28,6 @@ element-copy-out-e c = search needs
 is-nobody-requires : tie.Need-is-nobody-requires Inv-loop μ-loop
 is-nobody-requires c κs = search needs
 
-add-used : tie.Need-add-used Inv-loop μ-loop
-add-used c = search needs
-
-load-of-requires : tie.Need-load-of-requires Inv-loop μ-loop
-load-of-requires c κs = search needs
-
-add-load : tie.Need-add-load Inv-loop μ-loop
-add-load c =
-    let l = c .before .before .before .before .before in
-    let s = l .before in
-    let m = l .loop .inv in
-    omega (
-      arith,
-      c .load-of .ensures,
-      load-small (s .args .t1) (s .good .0) (s .pre) m (c .before .before .before .before .loop-test .taken),
-      m .within,
-      m .small,
-    )
-
 rank-requires : tie.Need-rank-requires Inv-loop μ-loop
 rank-requires c κs = search needs
 
@@ -83,6 +64,26 @@ mul-jobs c = search needs
 array-write-jobs : tie.Need-array-write-jobs Inv-loop μ-loop
 array-write-jobs c = search needs
 
+load-of-requires : tie.Need-load-of-requires Inv-loop μ-loop
+load-of-requires c κs = search needs
+
+add-load : tie.Need-add-load Inv-loop μ-loop
+add-load c =
+    let t = c .before .before .before .before .before .before .before .before in
+    let l = t .before in
+    let s = l .before in
+    let m = l .loop .inv in
+    omega (
+      arith,
+      c .load-of .ensures,
+      load-small (s .args .t1) (s .good .0) (s .pre) m (t .loop-test .taken),
+      m .within,
+      m .small,
+    )
+
+add-used : tie.Need-add-used Inv-loop μ-loop
+add-used c = search needs
+
 add-i : tie.Need-add-i Inv-loop μ-loop
 add-i c = search needs
 
@@ -98,8 +99,8 @@ loop-again c =
     let f = ap not (sym (c .before .is-nobody .ensures)) in
     elim (c .if1 .came) [
       | inl w ↦ rw (w .6, w .7, w .8, w .9, w .10, w .11)
-          (making-more t (s .good .0) (s .pre) (l .loop .inv) h (f ∙ w .0 .taken) (w .1 .ensures) (w .2 .ensures) (w .3 .ensures) (w .4 .ensures)
-          (w .5 .ensures))
+          (making-more t (s .good .0) (s .pre) (l .loop .inv) h (f ∙ w .0 .taken) (w .5 .ensures) (w .1 .ensures) (w .2 .ensures) (w .3 .ensures)
+          (w .4 .ensures))
       | inr w ↦ rw (w .1, w .2, w .3, w .4, w .5, w .6) (making-same t (s .good .0) (s .pre) (l .loop .inv) h (f ∙ w .0 .left))
     ]
 
@@ -118,9 +119,6 @@ queue-of-spec =
     mul-e
     element-copy-out-e
     is-nobody-requires
-    add-used
-    load-of-requires
-    add-load
     rank-requires
     mul-ranks
     array-write-ranks
@@ -133,6 +131,9 @@ queue-of-spec =
     job-count-requires
     mul-jobs
     array-write-jobs
+    load-of-requires
+    add-load
+    add-used
     add-i
     loop-less
     loop-again

@@ -1,9 +1,8 @@
 -- What a turn of `beacon_plan::write_plan`'s loop knows. The invariant: what stands at t is a state of the plan, heads and releases have the
 -- first unfinished job of each row, and next, if it is ahead, is the next release. The measure is what is to come, so the turns are few.
 -- Assumes nothing.
-use mathlib.Core.Logic.{⊎-elim}
 use mathlib.Core.Option.{none, some}
-use mathlib.Core.Path.{_≡_, refl}
+use mathlib.Core.Path.{_≡_}
 use mathlib.Core.List.{List}
 use Prim.Native.Nat.{ℕ, _≤_, _<_, _+_, _*_, _-_, min}
 use native.Mathlib.Omega.{arith}
@@ -17,9 +16,9 @@ use Rattle.spec_model.specs.Tables.{places}
 use Rattle.spec_model.specs.declared.Name.{Name}
 use Rattle.spec_rules.specs.Records.{recordWords}
 use Rattle.beacon_plan.specs.Rows.{fewRuns, rowJobs, rowPlan, Padded}
-use Rattle.beacon_plan.specs.RowLaws.{needAt, withNeed, jobIn, Wide, plan-few}
+use Rattle.beacon_plan.specs.RowLaws.{needAt, jobIn, Wide, plan-few}
 use Rattle.beacon_plan.specs.Needs.{needRows, counted-sized}
-use Rattle.beacon_plan.specs.Kept.{Kept, kept-changed, kept-same}
+use Rattle.beacon_plan.specs.Kept.{Firsts, Spared}
 use Rattle.beacon_plan.specs.Next.{nextOf}
 use Rattle.beacon_plan.specs.Turns.{turns}
 use Rattle.beacon_plan.specs.Steps.{Given, State, room, chosen-needs, none-chosen, job-chosen}
@@ -29,7 +28,7 @@ use Rattle.beacon_plan.proofs.write_plan.Tie as tie
 abbrev pub Inv-loop : tie.InvT-loop
 Inv-loop rows lengths counts each plan₀ names b left₀ heads₀ releases₀ pen₀ t₀ next₀ plan left heads releases pen t next =
     State (b .0) (t .0) names lengths (rowPlan (b .0) names lengths (needRows counts each)) plan₀ plan left pen
-    × (Kept rows lengths left heads releases × (t .0 < next .0 → next .0 ≡ nextOf (b .0) (t .0) lengths))
+    × ((Firsts lengths left heads releases × Spared rows left) × (t .0 < next .0 → next .0 ≡ nextOf (b .0) (t .0) lengths))
 
 abbrev pub μ-loop : tie.MeasureT-loop
 μ-loop rows lengths counts each plan₀ names b left₀ heads₀ releases₀ pen₀ t₀ next₀ plan left heads releases pen t next =
@@ -110,50 +109,34 @@ pub chosen : (c : tie.Then2 Inv-loop μ-loop) → let l = turn c in
     × (number c < 16)
 chosen c =
     let i = turn c .loop .inv in
-    job-chosen (i .0) (within (c .before) .if1 .taken) (i .1 .0) (c .before .choose-place .ensures) (c .if2 .taken)
+    job-chosen (i .0) (within (c .before) .if1 .taken) (i .1 .0 .0) (c .before .choose-place .ensures) (c .if2 .taken)
 
 -- what it needs, and how long it runs
 abbrev pub need : tie.Then2 Inv-loop μ-loop → ℕ
 need c = needAt (turn c .loop .left) (place c) (number c)
 
-abbrev pub job : tie.After-smaller Inv-loop μ-loop → tie.Then2 Inv-loop μ-loop
-job s = s .before .before .before .before
+pub needs-some : (c : tie.Then2 Inv-loop μ-loop) → 1 ≤ need c
+needs-some c = chosen-needs (turn c .loop .t .0) (jobsAt (turn c)) (chosen c .0)
 
-pub ran : (s : tie.After-smaller Inv-loop μ-loop) → let l = turn (job s) in
-    (s .smaller .result ≡ min (need (job s)) (nextOf (end (entry l)) (l .loop .t .0) (Ts (entry l)) - l .loop .t .0))
-    × (l .loop .t .0 + s .smaller .result ≤ release (job s .before))
+abbrev pub job : tie.After-run-job Inv-loop μ-loop → tie.Then2 Inv-loop μ-loop
+job s = s .before .before .before .before .before .before
+
+pub ran : (s : tie.After-run-job Inv-loop μ-loop) → let l = turn (job s) in
+    (s .run-job .result .0 ≡ min (need (job s)) (nextOf (end (entry l)) (l .loop .t .0) (Ts (entry l)) - l .loop .t .0))
+    × (l .loop .t .0 + s .run-job .result .0 ≤ release (job s .before))
 ran s =
     let p = job s .before in
     let l = turn (job s) in
-    let e : s .smaller .result ≡ min (need (job s)) (release p - l .loop .t .0) = s .smaller .ensures in
+    let e : s .run-job .result .0 ≡ min (need (job s)) (release p - l .loop .t .0) = s .run-job .ensures .0 in
     (omega (arith, e, p .before .before .next-after .ensures), omega (arith, ahead p))
 
--- where it has ended, the next job of its row is the first; where not, it is still
-pub kept : (c : tie.Joined3 Inv-loop μ-loop) → let o = job (c .before) in let l = turn o in
-    Kept (entry l .args .rows) (Ts (entry l)) (withNeed (l .loop .left) (place o) (number o) (need o - c .before .smaller .result))
-    (c .if3 .heads) (c .if3 .releases)
-kept c =
-    let s = c .before in
-    let o = job s in
-    let l = turn o in
-    let k = l .loop .inv .1 .0 in
-    let v = need o - s .smaller .result in
-    let r : place o < length (l .loop .left) = omega (arith, o .if2 .taken, l .loop .inv .0 .rows) in
-    let q = chosen-needs (l .loop .t .0) (jobsAt l) (chosen o .0) in
-    ⊎-elim
-    (λ w. kept-changed k (place o) (number o) v q r (w .2 .ensures) (w .4 .ensures) (w .5) (w .6))
-    (λ w. kept-same k (place o) (number o) v q refl (omega (arith, ran s .0, w .0 .left)) (w .1) (w .2))
-    (c .if3 .came)
-
-abbrev pub after : tie.After-slice-known2 Inv-loop μ-loop → tie.Joined3 Inv-loop μ-loop
-after c = c .before .before .before .before .before
-
-abbrev pub run : tie.After-slice-known2 Inv-loop μ-loop → tie.After-smaller Inv-loop μ-loop
-run c = after c .before
+-- what is left of the rows, and their first jobs
+abbrev pub run : tie.After-slice-known2 Inv-loop μ-loop → tie.After-run-job Inv-loop μ-loop
+run c = c .before .before .before .before .before
 
 -- no job is chosen
 pub idle : (c : tie.Else2 Inv-loop μ-loop) → let l = at (within (c .before)) in choose (l .loop .t .0) (jobsAt l) ≡ none
 idle c =
     let w = within (c .before) in
     let i = at w .loop .inv in
-    none-chosen (i .0) (w .if1 .taken) (i .1 .0) (c .before .choose-place .ensures) (c .if2 .left)
+    none-chosen (i .0) (w .if1 .taken) (i .1 .0 .0) (c .before .choose-place .ensures) (c .if2 .left)

@@ -1,8 +1,8 @@
--- `beacon_plan::put_run` meets its contract: a run of no slots is none, any other is one record. Assumes nothing.
+-- `plan_record::put_run` meets its contract: a run of no slots is none, any other is one record. Assumes nothing.
 use borrow.Author.Needs.{needs}
-use Rattle.beacon_plan.specs.Pens.{put-none, put-one}
-use Rattle.beacon_plan.proofs.put_run.Statement.{statement}
-use Rattle.beacon_plan.proofs.put_run.Tie as tie
+use Rattle.plan_record.specs.Pens.{put-none, put-one}
+use Rattle.plan_record.proofs.put_run.Statement.{statement}
+use Rattle.plan_record.proofs.put_run.Tie as tie
 
 returns : tie.Need-returns
 returns c = put-none (c .before .before .before .before .args .pen) _ (c .if1 .taken)

@@ -1,10 +1,10 @@
--- `beacon_plan::blank_pen` meets its contract: the name of a free place is nobody's. Assumes nothing.
+-- `plan_record::blank_pen` meets its contract: the name of a free place is nobody's. Assumes nothing.
 use mathlib.Core.Path.{ap}
 use borrow.Author.Needs.{needs}
 use Rattle.spec_model.specs.declared.Entry.{Entry}
-use Rattle.beacon_plan.specs.Pens.{blankFor}
-use Rattle.beacon_plan.proofs.blank_pen.Statement.{statement}
-use Rattle.beacon_plan.proofs.blank_pen.Tie as tie
+use Rattle.plan_record.specs.Pens.{blankFor}
+use Rattle.plan_record.proofs.blank_pen.Statement.{statement}
+use Rattle.plan_record.proofs.blank_pen.Tie as tie
 
 free-entry-requires : tie.Need-free-entry-requires
 free-entry-requires c κs = search needs

@@ -1,9 +1,9 @@
--- `beacon_plan::extend_run` meets its contract: the run grows, or is written before another begins. Assumes nothing.
+-- `plan_record::extend_run` meets its contract: the run grows, or is written before another begins. Assumes nothing.
 use mathlib.Core.Path.{sym, _∙_}
 use borrow.Author.Needs.{needs}
-use Rattle.beacon_plan.specs.Pens.{named, on-grown, on-anew}
-use Rattle.beacon_plan.proofs.extend_run.Statement.{statement}
-use Rattle.beacon_plan.proofs.extend_run.Tie as tie
+use Rattle.plan_record.specs.Pens.{named, on-grown, on-anew}
+use Rattle.plan_record.proofs.extend_run.Statement.{statement}
+use Rattle.plan_record.proofs.extend_run.Tie as tie
 
 run-grows-requires : tie.Need-run-grows-requires
 run-grows-requires c κs = search needs

@@ -1,10 +1,10 @@
--- `beacon_plan::run_grows` meets its contract: its cases are the three tests of the definition. Assumes nothing.
+-- `plan_record::run_grows` meets its contract: its cases are the three tests of the definition. Assumes nothing.
 use mathlib.Core.Path.{sym, _∙_}
 use borrow.Author.Tests.{eq-eqb, ne-eqb, not-true, not-false}
 use borrow.Author.Needs.{needs}
-use Rattle.beacon_plan.specs.Pens.{grows}
-use Rattle.beacon_plan.proofs.run_grows.Statement.{statement}
-use Rattle.beacon_plan.proofs.run_grows.Tie as tie
+use Rattle.plan_record.specs.Pens.{grows}
+use Rattle.plan_record.proofs.run_grows.Statement.{statement}
+use Rattle.plan_record.proofs.run_grows.Tie as tie
 
 same-requires : tie.Need-same-requires
 same-requires c κs = search needs
