@@ -113,7 +113,7 @@ impl Counts {
 
 /// A planner on its day. Each planner is held to what it holds itself, since the days part with the first difference.
 fn run<P: Planner>(day: &Day, counts: &mut Counts) {
-    let mut planner = P::open(day.units);
+    let mut planner = P::open(day.units, 0);
     let mut ledger = Ledger::new(1_024 * u64::from(day.units));
     let mut plan = vec![0; 4 * PLAN_WORDS];
     for call in &day.calls {

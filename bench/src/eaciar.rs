@@ -298,7 +298,8 @@ fn by_deadline(rows: &[Row]) -> Vec<usize> {
 impl Planner for Eaciar {
     const NAME: &'static str = "EACIAR";
 
-    fn open(units: u32) -> Eaciar {
+    fn open(units: u32, header: u32) -> Eaciar {
+        assert_eq!(header, 0, "the published procedure has no header");
         Eaciar::with_interval(1_024 * u64::from(units))
     }
 

@@ -28,7 +28,7 @@ fn overlap(record: &[u32], from: u64, until: u64) -> u64 {
 impl Ledger {
     /// An empty table.
     pub fn new(interval: u64) -> Ledger {
-        Ledger { watch: Watch::new(interval), completed: 0, short: 0 }
+        Ledger { watch: Watch::new(interval, 0), completed: 0, short: 0 }
     }
 
     /// Whether some assignment of the coming slots serves all that is held and the offered request.

@@ -1,4 +1,5 @@
-//! `bench calls`, `bench growth FOLDER`, `bench worst` and `bench days DAYS SEED` print tables; growth writes its plots to FOLDER too.
+//! `bench calls`, `bench growth FOLDER`, `bench headers`, `bench worst` and `bench days DAYS SEED` print tables; growth writes its plots to
+//! FOLDER too.
 //! `bench all FOLDER` does all of them. `bench measure GROUP` is what the tool runs under callgrind.
 
 use std::io;
@@ -28,16 +29,17 @@ fn work(words: &[&str]) -> io::Result<()> {
         ["measure", group] => counting::measure(group),
         ["calls"] => print!("{}", report::calls()?),
         ["growth", folder] => growth(Path::new(folder))?,
+        ["headers"] => print!("{}", report::headers()?),
         ["worst"] => print!("{}", report::worst()?),
         ["days", days, seed] => print!("{}", report::days(number(days)? as usize, number(seed)?)?),
         ["all", folder] => {
-            print!("{}\n{}\n", report::calls()?, report::worst()?);
+            print!("{}\n{}\n{}\n", report::calls()?, report::headers()?, report::worst()?);
             growth(Path::new(folder))?;
             print!("\n{}", report::days(DAYS, SEED)?);
         }
         _ => {
             return Err(io::Error::other(
-                "usage: bench calls | growth FOLDER | worst | days DAYS SEED | all FOLDER",
+                "usage: bench calls | growth FOLDER | headers | worst | days DAYS SEED | all FOLDER",
             ));
         }
     }

@@ -11,8 +11,8 @@ pub trait Planner: Clone {
     const NAME: &'static str;
     /// Whether it answers enquiries and cuts windows.
     const READS: bool = false;
-    /// Opens a table; the time units are in range.
-    fn open(units: u32) -> Self;
+    /// Opens a table; time units and header are in range.
+    fn open(units: u32, header: u32) -> Self;
     /// Offers a request.
     fn offer(&mut self, offer: &Offer) -> u32;
     /// Ends an admission.
@@ -37,8 +37,8 @@ impl Planner for Second {
     const NAME: &'static str = "second";
     const READS: bool = true;
 
-    fn open(units: u32) -> Second {
-        Second(Table::open(units).expect("time units in range"))
+    fn open(units: u32, header: u32) -> Second {
+        Second(Table::open(units, header).expect("time units and header in range"))
     }
 
     fn offer(&mut self, offer: &Offer) -> u32 {
@@ -79,8 +79,8 @@ impl Planner for Ours {
     const NAME: &'static str = "ours";
     const READS: bool = true;
 
-    fn open(units: u32) -> Ours {
-        Ours(gelmush::Shelf::open(units).expect("time units in range"))
+    fn open(units: u32, header: u32) -> Ours {
+        Ours(gelmush::Shelf::open(units, header).expect("time units and header in range"))
     }
 
     fn offer(&mut self, offer: &Offer) -> u32 {
@@ -127,7 +127,8 @@ impl SumAlone {
 impl Planner for SumAlone {
     const NAME: &'static str = "sum alone";
 
-    fn open(units: u32) -> SumAlone {
+    fn open(units: u32, header: u32) -> SumAlone {
+        assert_eq!(header, 0, "the sum of utilizations knows no header");
         SumAlone { interval: Slots(1_024 * u64::from(units)), held: Vec::new() }
     }
 
@@ -154,8 +155,9 @@ impl Planner for SumAlone {
     }
 
     fn beacon(&mut self, plan: &mut [u32]) -> usize {
-        let division = Division::of(self.interval, &self.held).expect("the sum leaves kind 1 its minimum");
-        let records = plan::by_events(self.interval, &division.jobs(self.interval, &self.held));
+        let division =
+            Division::of(self.interval, Slots(0), &self.held).expect("the sum leaves kind 1 its minimum");
+        let records = plan::by_events(self.interval, Slots(0), &division.jobs(self.interval, &self.held));
         for (words, record) in plan.chunks_exact_mut(4).zip(&records) {
             words.copy_from_slice(&record.to_words());
         }

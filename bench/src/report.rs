@@ -74,6 +74,33 @@ pub fn worst() -> io::Result<String> {
     Ok(table::print(&["29 held", "ours", "second", "ours/second"], &rows))
 }
 
+/// An offer and a beacon behind each header, and what the header adds to them.
+pub fn headers() -> io::Result<String> {
+    let counts = counting::count("headers")?;
+    let mut rows = Vec::new();
+    for call in [Call::Offer, Call::Beacon] {
+        for setting in settings::of("headers") {
+            let [ours, second] = LOOK_AHEAD.map(|planner| find(&counts, setting.size, call, planner));
+            let none = find(&counts, 0, call, "ours");
+            let name = format!("{}, {}", call.name(), setting.size);
+            rows.push(vec![name, shown(ours), shown(second), part(ours, second), part(ours, none)]);
+        }
+    }
+    let head = ["call, header", "ours", "second", "ours/second", "to ours without one"];
+    Ok(format!("{}\n{}", table::print(&head, &rows), parts()?))
+}
+
+/// An offer behind a header, by the different numbers of parts.
+fn parts() -> io::Result<String> {
+    let counts = counting::count("parts")?;
+    let row = |setting: &settings::Setting| {
+        let [ours, second] = LOOK_AHEAD.map(|planner| find(&counts, setting.size, Call::Offer, planner));
+        vec![setting.size.to_string(), shown(ours), shown(second), part(ours, second)]
+    };
+    let rows: Vec<Vec<String>> = settings::of("parts").iter().map(row).collect();
+    Ok(table::print(&["different numbers of parts", "ours", "second", "ours/second"], &rows))
+}
+
 /// What grows, and in which calls that is seen.
 pub struct Growth {
     group: &'static str,

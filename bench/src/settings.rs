@@ -44,6 +44,8 @@ pub struct Setting {
     pub size: u32,
     /// Time units of an interval.
     pub units: u32,
+    /// Slots of its header; the published procedure has none.
+    pub header: u32,
     /// Held requests; all are accepted.
     pub held: Vec<Offer>,
     /// The last one, accepted too.
@@ -95,7 +97,8 @@ fn mixed(i: u32) -> Offer {
 fn mix(group: &'static str, size: u32, units: u32, requests: u32, calls: &'static [Call]) -> Setting {
     let mut held: Vec<Offer> = (0..requests - 1).map(mixed).collect();
     held.sort_by_key(|offer| offer.kind);
-    Setting { group, size, units, held, offered: transfer(99, 4, 60), calls, peers: Peers::Both }
+    let offered = transfer(99, 4, 60);
+    Setting { group, size, units, header: 0, held, offered, calls, peers: Peers::Both }
 }
 
 /// The requests of case 1 of document 01, a table of 12 and a full one, with every call.
@@ -120,11 +123,39 @@ fn requests() -> Vec<Setting> {
 
 /// 32 fraction streams at 15 time units, in more and more parts. The size counts their jobs.
 fn jobs() -> Vec<Setting> {
-    let setting = |m| {
-        let held = (1..=31).map(|i| fraction(i, m, 4, 4)).collect();
-        Setting { held, offered: fraction(99, m, 4, 4), ..mix("jobs", 32 * m, 15, 32, BEACONS) }
+    [2, 4, 8, 16].map(|m| parted("jobs", 32 * m, m, BEACONS)).into()
+}
+
+fn parted(group: &'static str, size: u32, m: u32, calls: &'static [Call]) -> Setting {
+    let held = (1..=31).map(|i| fraction(i, m, 4, 4)).collect();
+    Setting { held, offered: fraction(99, m, 4, 4), ..mix(group, size, 15, 32, calls) }
+}
+
+/// The dearest of these tables, with 960 slots to a period, behind longer and longer headers. The size is the header. In each period the
+/// streams ask for 128 slots, and would have 256 with their extras: so these pass the header test but for the last header, where step C is
+/// done over again.
+fn headers() -> Vec<Setting> {
+    let setting = |header| Setting { header, peers: Peers::Second, ..parted("headers", header, 16, MOVES) };
+    [0, 1, 100, 704, 705].map(setting).into()
+}
+
+/// 32 fraction streams behind a header, in more and more different numbers of parts: the size counts these, and 13 are the most that divide
+/// an interval.
+fn parts() -> Vec<Setting> {
+    const PARTS: [u32; 13] = [16, 15, 14, 12, 10, 9, 8, 7, 6, 5, 4, 3, 2];
+    let setting = |different: usize| {
+        let stream = |i: usize| fraction(i as u32 + 1, PARTS[i % different], 4, 4);
+        let held = (0..31).map(stream).collect();
+        let peers = Peers::Second;
+        Setting {
+            header: 100,
+            held,
+            offered: stream(31),
+            peers,
+            ..mix("parts", different as u32, 945, 1, OFFERS)
+        }
     };
-    [2, 4, 8, 16].map(setting).into()
+    [1, 2, 4, 8, 13].map(setting).into()
 }
 
 /// The longest life for which the published procedure is run: its arrays have a slot for each slot of these intervals.
@@ -193,6 +224,8 @@ pub fn of(group: &str) -> Vec<Setting> {
         "units" => units(),
         "requests" => requests(),
         "jobs" => jobs(),
+        "headers" => headers(),
+        "parts" => parts(),
         "lives" => lives(),
         "full" => full(),
         "worst" => worst(),
@@ -207,7 +240,7 @@ mod tests {
     use crate::planner::{Planner, Second};
 
     fn accepts<P: Planner>(setting: &Setting) {
-        let mut planner = P::open(setting.units);
+        let mut planner = P::open(setting.units, setting.header);
         for offer in setting.held.iter().chain([&setting.offered]) {
             assert_eq!(planner.offer(offer), 0, "{} {} {offer:?}", setting.group, setting.size);
         }
@@ -216,7 +249,7 @@ mod tests {
     /// The figures are about calls that succeed.
     #[test]
     fn all_is_accepted() {
-        for group in ["calls", "units", "requests", "jobs", "lives", "full", "worst"] {
+        for group in ["calls", "units", "requests", "jobs", "headers", "parts", "lives", "full", "worst"] {
             for setting in of(group) {
                 assert!(setting.held.len() < 32);
                 if setting.peers != Peers::Nobody {

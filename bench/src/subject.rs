@@ -84,7 +84,7 @@ struct Prepared<P> {
 
 impl<P: Planner> Prepared<P> {
     fn new(setting: &Setting) -> Prepared<P> {
-        let mut before = P::open(setting.units);
+        let mut before = P::open(setting.units, setting.header);
         let accept = |planner: &mut P, offer| assert_eq!(planner.offer(offer), 0, "{offer:?} to {}", P::NAME);
         setting.held.iter().for_each(|offer| accept(&mut before, offer));
         let mut after = before.clone();
@@ -108,11 +108,11 @@ impl<P: Planner> Subject for Prepared<P> {
     }
 
     fn measure(&self, call: Call, meter: &mut Meter) {
-        let Setting { units, held, offered, .. } = &self.setting;
+        let Setting { units, header, held, offered, .. } = &self.setting;
         let first = held.first().unwrap_or(offered).stream;
         let quarter = 256 * units;
         match call {
-            Call::Open => meter.run(&(), |()| P::open(black_box(*units))),
+            Call::Open => meter.run(&(), |()| P::open(black_box(*units), black_box(*header))),
             Call::Offer => meter.run(&self.before, |planner| planner.offer(black_box(offered))),
             Call::Withdraw => meter.run(&self.after, |planner| planner.withdraw(black_box(first))),
             Call::Enquire => meter.run(&self.after, |planner| planner.enquire(black_box(offered.stream))),

@@ -1,6 +1,6 @@
 /* Makes the calls that it reads, one to a line, and prints what each gave, for a comparison:
  *
- *     open UNITS
+ *     open UNITS HEADER
  *     offer STREAM KIND PERIOD MIN MAX LIFE
  *     withdraw STREAM
  *     enquire STREAM
@@ -64,7 +64,7 @@ static size_t differing(const uint32_t *some, const uint32_t *others, size_t wor
 }
 
 static outcome open_table(void) {
-    uint32_t answer = gelmush_open(&table, word(0));
+    uint32_t answer = gelmush_open(&table, word(0), word(1));
     is_open |= answer == 0;
     return (outcome){.answer = answer};
 }
@@ -118,7 +118,7 @@ static const struct {
     size_t numbers;
     int changes;  /* whether it may change the table */
     outcome (*make)(void);
-} calls[] = {{"open", 1, 1, open_table}, {"offer", 6, 1, offer},   {"withdraw", 1, 1, withdraw},
+} calls[] = {{"open", 2, 1, open_table}, {"offer", 6, 1, offer},   {"withdraw", 1, 1, withdraw},
              {"enquire", 1, 0, enquire}, {"beacon", 2, 1, beacon}, {"window", 3, 0, window}};
 
 static void make(const char *verb) {

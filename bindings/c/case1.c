@@ -23,7 +23,7 @@ static void window(size_t count, uint32_t from, uint32_t until) {
 
 int main(void) {
     gelmush_table table = {{0}};
-    printf("open,,,,,%u\n", gelmush_open(&table, 1));
+    printf("open,,,,,%u\n", gelmush_open(&table, 1, 0));
     offer(&table, 5, 1, 2, 100, 300, 4);
     offer(&table, 7, 2, 2, 600, 1000, 4);
     offer(&table, 9, 3, 1, 300, 0, 1);
@@ -38,7 +38,7 @@ int main(void) {
     gelmush_found found = gelmush_enquire(&table, 7);
     printf("enquire,7,%u: owed %u, given %u, left %u\n", found.answer, found.entry.owed, found.entry.given, found.entry.left);
     printf("withdraw,9,%u\n", gelmush_withdraw(&table, 9));
-    printf("open,,,,,%u\n", gelmush_open(&table, 0));
+    printf("open,,,,,%u\n", gelmush_open(&table, 0, 0));
     printf("withdraw,5,%u\n", gelmush_withdraw(&table, 5));
     printf("beacon,,,,,%u\n", gelmush_beacon(&table, plan, GELMUSH_PLAN_WORDS - 1).answer);
     return 0;

@@ -20,7 +20,7 @@
 extern "C" {
 #endif
 
-#define GELMUSH_TABLE_WORDS 353  /* the slots of an interval, and 11 words for each of 32 places */
+#define GELMUSH_TABLE_WORDS 354  /* the slots of an interval and of its header, and 11 words for each of 32 places */
 #define GELMUSH_PLAN_WORDS 4096  /* the least memory for a plan: 1,024 records */
 #define GELMUSH_RECORD_WORDS 4   /* stream, job, start, length */
 
@@ -50,8 +50,9 @@ typedef struct {
     size_t first, words;
 } gelmush_place;
 
-/* Asks nothing of what lies in the table. Refused (1), it lies there still. */
-uint32_t gelmush_open(gelmush_table *table, uint32_t units);
+/* Intervals of so many time units, the first slots of which are their header's, given to nobody. Asks nothing of what lies in the table.
+ * Refused (1, 61), it lies there still. */
+uint32_t gelmush_open(gelmush_table *table, uint32_t units, uint32_t header);
 
 /* 10 to 17. */
 uint32_t gelmush_offer(gelmush_table *table, uint32_t stream, uint32_t kind, uint32_t period, uint32_t min, uint32_t max, uint32_t life);

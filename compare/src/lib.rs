@@ -105,7 +105,21 @@ fn noise(seed: u64, rows: usize) -> Vec<u8> {
 
 /// The lists of one round, each with its name.
 fn round(seed: u64) -> Vec<(String, Vec<u8>)> {
-    let sizes = [("mix", 4000), ("damaged", 4000), ("full", 6), ("tight", 40), ("school", 1), ("large", 4)];
+    let sizes = [
+        ("mix", 4000),
+        ("damaged", 4000),
+        ("full", 6),
+        ("tight", 40),
+        ("school", 1),
+        ("large", 4),
+        ("header", 200),
+        ("headed-mix", 4000),
+        ("headed-damaged", 4000),
+        ("headed-full", 6),
+        ("headed-tight", 40),
+        ("headed-school", 1),
+        ("headed-large", 4),
+    ];
     let mut round: Vec<(String, Vec<u8>)> = sizes
         .iter()
         .filter_map(|(name, size)| Some((name.to_string(), lists::make(name, seed, *size)?)))

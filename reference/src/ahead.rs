@@ -4,7 +4,9 @@
 //! hold the first one to it.
 
 use crate::request::Entry;
-use crate::steps::{Share, capacity, count_down, serve, turn_over, turns};
+use crate::steps::{
+    Share, capacity, count_down, passes_header_test, passes_job_by_job, serve, turn_over, turns,
+};
 use crate::units::{Intervals, Slots};
 
 /// Whether an entry has come to its deadline without the whole of its minimum.
@@ -15,11 +17,20 @@ fn missed(entry: &Entry) -> bool {
 /// Whether the entries all get their minimum, found by leaps.
 ///
 /// Until the nearest end of a life or of a period nobody comes, nobody goes, and the order of service stays
-/// as it is. So the intervals up to there can be served as one, with the capacity of all of them.
-pub fn fits(interval: Slots, entries: &[Entry]) -> bool {
+/// as it is. So the intervals up to there can be served as one, with the capacity of all of them. The header
+/// test comes out as before unless a kind 1 entry has left since then, so it is made again only after that.
+pub fn fits(interval: Slots, header: Slots, entries: &[Entry]) -> bool {
     let mut entries = entries.to_vec();
+    let mut tested = None;
     while !entries.is_empty() {
-        let Some(each) = capacity(interval, &entries) else { return false };
+        let Some(each) = capacity(interval, header, &entries) else { return false };
+        let fractions = entries.iter().filter(|entry| entry.turn().is_none()).count();
+        if tested != Some(fractions) {
+            if !passes_header_test(interval, header, &entries, |_| Slots::NONE) {
+                return false;
+            }
+            tested = Some(fractions);
+        }
         let ends = entries.iter().map(|entry| match entry.turn() {
             Some(_) => entry.life_left.min(entry.left),
             None => entry.life_left,
@@ -43,11 +54,15 @@ pub fn fits(interval: Slots, entries: &[Entry]) -> bool {
     true
 }
 
-/// Whether the entries all get their minimum, found interval by interval with steps A, B and F.
-pub fn fits_stepwise(interval: Slots, entries: &[Entry]) -> bool {
+/// Whether the entries all get their minimum, found interval by interval with steps A, B and F and the header
+/// test, job by job.
+pub fn fits_stepwise(interval: Slots, header: Slots, entries: &[Entry]) -> bool {
     let mut entries = entries.to_vec();
     while !entries.is_empty() {
-        let Some(capacity) = capacity(interval, &entries) else { return false };
+        let Some(capacity) = capacity(interval, header, &entries) else { return false };
+        if !passes_job_by_job(interval, header, &entries, |_| Slots::NONE) {
+            return false;
+        }
         let mut shares = vec![Share::default(); entries.len()];
         serve(&entries, capacity, &mut shares);
         count_down(&mut entries, &shares);

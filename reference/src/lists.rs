@@ -1,37 +1,56 @@
 //! Made-up lists of input rows, each decided by its name, a seed and a size.
 //!
 //! The lists know the rules only roughly: enough to hit every limit from both sides and to keep most offers
-//! sensible. What the rows should give is for the program under test to say. Only `tight` asks the planner, to
-//! find the last slot that is free.
+//! sensible. What the rows should give is for the program under test to say. Only `tight` and `header` ask
+//! the planner, to find the last slot that is free and the longest header that leaves it.
 
 use crate::random::Random;
 use crate::request::Offer;
 use crate::table::Table;
 
-/// The names of all lists.
-pub const NAMES: [&str; 9] = ["cases", "edges", "damaged", "full", "tight", "long", "large", "school", "mix"];
+/// The names of the lists that are stored.
+pub const NAMES: [&str; 10] =
+    ["cases", "edges", "damaged", "full", "tight", "long", "large", "school", "mix", "header"];
+
+/// The names of lists that go like the one behind the dash, with headers at their openings. They are made
+/// afresh for comparisons and not stored.
+pub const HEADED: [&str; 6] =
+    ["headed-damaged", "headed-full", "headed-tight", "headed-large", "headed-school", "headed-mix"];
+
+/// The name of the list behind the dash, and whether there was one.
+fn plain_name(name: &str) -> (&str, bool) {
+    match name.strip_prefix("headed-") {
+        Some(plain) if HEADED.contains(&name) => (plain, true),
+        _ => (name, false),
+    }
+}
 
 /// The seed of the stored lists.
 pub const STORED_SEED: u64 = 11;
 
 /// The size of a list if no other is asked for. Only some lists grow with it.
 pub fn usual_size(name: &str) -> usize {
-    match name {
+    match plain_name(name).0 {
         "damaged" => 1_500,
         "full" => 10,
         "tight" => 40,
         "large" => 5,
         "mix" => 1_800,
+        "header" => 12,
         _ => 1,
     }
 }
 
-/// Makes the list of a name. The size counts rows for `damaged` and `mix`, tables for `full` and
-/// `tight`, and rounds for `large`; the other lists have one size.
+/// Makes the list of a name. The size counts rows for `damaged` and `mix`, tables for `full`, `tight` and
+/// `header`, and rounds for `large`; the other lists have one size.
 pub fn make(name: &str, seed: u64, size: usize) -> Option<Vec<u8>> {
+    let (name, headed) = plain_name(name);
     let salt = NAMES.iter().position(|&known| known == name)? as u64;
-    let mut random = Random::new(seed.wrapping_mul(1_000).wrapping_add(salt));
-    let mut list = List::default();
+    let seed = seed.wrapping_mul(1_000).wrapping_add(salt);
+    let mut random = Random::new(seed);
+    // Headers have a sequence of their own, so that the rows between the openings stay as they are without.
+    let headers = headed.then(|| Random::new(seed.wrapping_add(500)));
+    let mut list = List { bytes: Vec::new(), headers };
     match name {
         "cases" => cases(&mut list),
         "edges" => edges(&mut list),
@@ -42,15 +61,17 @@ pub fn make(name: &str, seed: u64, size: usize) -> Option<Vec<u8>> {
         "large" => large(&mut list, &mut random, size),
         "school" => school(&mut list, &mut random),
         "mix" => mix(&mut list, &mut random, size),
+        "header" => header(&mut list, &mut random, size),
         _ => return None,
     }
     Some(list.bytes)
 }
 
 /// Rows under construction.
-#[derive(Default)]
 struct List {
     bytes: Vec<u8>,
+    /// Decides about the headers of openings. Without it no opening has one.
+    headers: Option<Random>,
 }
 
 impl List {
@@ -65,12 +86,56 @@ impl List {
         self.bytes.extend_from_slice(bytes);
     }
 
-    fn open(&mut self, time_units: u64) {
-        self.row(&format!("open,{time_units},,,,,"));
+    /// An opening that succeeds, with a header if this list has headers, now and then after one whose header
+    /// is too long. Returns the slots of the header.
+    fn open(&mut self, time_units: u64) -> u64 {
+        let Some(random) = &mut self.headers else {
+            self.open_with(time_units, "");
+            return 0;
+        };
+        let too_long = random.chance(25).then(|| header_beyond(random, time_units));
+        let header = header_within(random, time_units);
+        let text = if header == 0 && random.chance(50) { String::new() } else { header.to_string() };
+        if let Some(header) = too_long {
+            self.open_with(time_units, &header.to_string());
+        }
+        self.open_with(time_units, &text);
+        header
+    }
+
+    /// An opening with this text in the field of the header.
+    fn open_with(&mut self, time_units: u64, header: &str) {
+        self.row(&format!("open,{time_units},{header},,,,"));
+    }
+
+    /// In a list with headers, with a chance of so many in a hundred: an opening whose header field may be no
+    /// number.
+    fn maybe_broken_opening(&mut self, time_units: u64, percent: u64) {
+        let Some(random) = &mut self.headers else { return };
+        if !random.chance(percent) {
+            return;
+        }
+        let field = if random.chance(50) {
+            random.pick(&NUMBERS).as_bytes().to_vec()
+        } else {
+            let mut field = header_within(random, time_units).to_string().into_bytes();
+            wound(&mut field, random);
+            field
+        };
+        let row = [format!("open,{time_units},").as_bytes(), &field, b",,,,\r\n"].concat();
+        self.raw(&row);
     }
 
     fn offer(&mut self, numbers: [u64; 6]) {
         self.row(&offer_text(numbers));
+    }
+
+    /// Several calls with blanks between them, each a row that may lack the empty fields at its end.
+    fn calls(&mut self, text: &str) {
+        for call in text.split_whitespace() {
+            let missing = 6 - call.matches(',').count();
+            self.row(&format!("{call}{}", ",".repeat(missing)));
+        }
     }
 
     fn withdraw(&mut self, stream: u64) {
@@ -91,6 +156,25 @@ fn offer_text(numbers: [u64; 6]) -> String {
 
 fn slots(time_units: u64) -> u64 {
     1_024 * time_units
+}
+
+/// A header that an interval of so many time units has room for.
+fn header_within(random: &mut Random, time_units: u64) -> u64 {
+    let all = slots(time_units);
+    match random.between(0, 99) {
+        0..=14 => 0,
+        15..=49 => random.between(1, all / 64),
+        50..=74 => random.between(1, all / 4),
+        75..=92 => random.between(1, all - 1),
+        93..=96 => all / random.between(2, 16) - random.between(0, 1),
+        _ => all - 1,
+    }
+}
+
+/// A header that is not below the slots of the interval.
+fn header_beyond(random: &mut Random, time_units: u64) -> u64 {
+    let all = slots(time_units);
+    *random.pick(&[all, all, all + 1, 2 * all, 1_024_001, 2_147_483_648, 4_294_967_294, 4_294_967_295])
 }
 
 /// The worked cases.
@@ -216,7 +300,7 @@ const OTHER_FORMS: [&str; 48] = [
     "open,1,,,,",
     "open,1,,,,,,",
     "open,1,,,,,0",
-    "open,1,1,,,,",
+    "open,1,,1,,,",
     "Open,1,,,,,",
     "open,\"1\",,,,,",
     "open,1,\"\",,,,",
@@ -419,6 +503,7 @@ fn damaged(list: &mut List, random: &mut Random, rows: usize) {
         if done % 100 == 40 {
             list.open(*random.pick(&[1, 2, 3, 8]));
         }
+        list.maybe_broken_opening(2, 4);
         let mut row = sensible_row(random, 2, &Habits::QUIET).into_bytes();
         row.extend_from_slice(b"\r\n");
         let wounds = if random.chance(45) { 0 } else { random.between(1, 3) };
@@ -527,6 +612,15 @@ struct Followed<'a> {
 }
 
 impl Followed<'_> {
+    /// An opening with any header, which may be refused.
+    fn open(&mut self, time_units: u64, header: u64) {
+        self.list.open_with(time_units, &header.to_string());
+        if let Ok(table) = Table::open(time_units as u32, header as u32) {
+            self.table = table;
+            self.time_units = time_units;
+        }
+    }
+
     fn offer(&mut self, numbers: [u64; 6]) {
         self.list.offer(numbers);
         let _ = self.table.offer(&plain_offer(numbers));
@@ -582,8 +676,8 @@ fn plain_offer(numbers: [u64; 6]) -> Offer {
 fn tight(list: &mut List, random: &mut Random, tables: usize) {
     for _ in 0..tables {
         let time_units = *random.pick(&[1, 1, 1, 2, 3, 6, 15, 100, 1_000]);
-        list.open(time_units);
-        let Ok(table) = Table::open(time_units as u32) else { continue };
+        let header = list.open(time_units);
+        let Ok(table) = Table::open(time_units as u32, header as u32) else { continue };
         let mut followed = Followed { list: &mut *list, table, time_units };
         let calm = Habits { rash: 0, ..Habits::BOLD };
         for _ in 0..random.between(3, 7) {
@@ -864,6 +958,7 @@ fn mix(list: &mut List, random: &mut Random, rows: usize) {
             let text = *random.pick(&["0", "1001", "", "00001", "4294967296", "1000 "]);
             list.row(&format!("open,{text},,,,,"));
         }
+        list.maybe_broken_opening(time_units, 1);
         let habits = if random.chance(70) { &Habits::QUIET } else { &Habits::BOLD };
         let mut row = sensible_row(random, time_units, habits).into_bytes();
         row.extend_from_slice(b"\r\n");
@@ -873,4 +968,230 @@ fn mix(list: &mut List, random: &mut Random, rows: usize) {
         list.raw(&row);
     }
     list.raw(b"\r\nbeacon,,,,,,");
+}
+
+/// Beacon headers: cases worked by hand, the limits, and tables whose requests or headers sit at the edge of
+/// the header test.
+fn header(list: &mut List, random: &mut Random, tables: usize) {
+    header_cases(list);
+    header_edges(list);
+    header_tables(list, random, tables);
+}
+
+/// The cases of `tests/header.rs`.
+fn header_cases(list: &mut List) {
+    // The first worked case behind a header of 50 slots.
+    list.calls("open,1,50 offer,5,1,2,100,300,4 offer,7,2,2,600,1000,4 offer,9,3,1,300,0,1 beacon beacon");
+    // The header test alone decides, at one end.
+    list.calls(
+        "open,1,500 offer,1,1,2,13,13,1 offer,1,1,2,12,12,1 offer,2,1,2,1,1,1
+        offer,3,2,1,501,501,1 offer,3,2,1,500,500,1 offer,4,3,1,1,0,1 beacon beacon",
+    );
+    // At two ends, and at an end within the header.
+    list.calls(
+        "open,1,100 offer,1,1,4,100,100,1 offer,2,1,8,20,20,1
+        offer,3,1,16,1,1,1 offer,3,1,8,9,9,1 offer,3,1,8,8,8,1 beacon",
+    );
+    // Extras that fail the test: kind 2 shares alone, for want of slots in part or to the full. Then extras of
+    // 12, which just pass it, and of 13, which do not.
+    list.calls(
+        "open,1,400 offer,1,1,2,100,300,2 offer,2,2,1,100,500,1 beacon offer,2,2,1,100,300,1 beacon
+        offer,1,1,2,100,112,1 offer,2,2,1,100,300,1 beacon
+        offer,1,1,2,100,113,1 offer,2,2,1,100,300,1 beacon",
+    );
+    // The second end decides about extras of 50 and of 51. There is no kind 2.
+    for max in [100, 101] {
+        list.calls(&format!("open,1,100 offer,1,1,8,28,28,1 offer,2,1,4,50,{max},1 beacon"));
+    }
+}
+
+/// The limits of a header, and every text in its field.
+fn header_edges(list: &mut List) {
+    list.open_with(1, "7");
+    list.offer([5, 3, 200, 200_000, 0, 200]);
+    for text in NUMBERS {
+        // Where the opening succeeds, there is nothing in the plan; else the transfer goes on.
+        list.open_with(1, text);
+        list.beacons(1);
+        list.offer([5, 3, 200, 200, 0, 200]);
+    }
+    // The time units are looked at first.
+    for (time_units, headers) in [
+        (0, ["", "0", "1", "4294967295", "4294967296"]),
+        (1_001, ["", "0", "1025024", "4294967295", "x"]),
+        (1, ["1022", "1023", "1024", "1025", "0000001023"]),
+        (2, ["1024", "2047", "2048", "2049", "0000002048"]),
+        (1_000, ["1024", "1023999", "1024000", "1024001", "4294967295"]),
+    ] {
+        for text in headers {
+            list.open_with(time_units, text);
+            list.beacons(1);
+        }
+    }
+    // A single slot is left.
+    list.open_with(1, "1023");
+    list.offer([1, 1, 2, 1, 1, 1]);
+    list.offer([1, 2, 1, 2, 2, 2]);
+    list.offer([1, 2, 1, 1, 1_024, 2]);
+    list.offer([2, 3, 2, 1, 0, 2]);
+    list.beacons(1);
+    list.withdraw(1);
+    list.offer([2, 3, 2, 2, 0, 2]);
+    list.offer([3, 3, 2, 1, 0, 2]);
+    list.beacons(2);
+    // The first end lies before, at and just behind the end of the header.
+    for (parts, header) in [(2, 512), (4, 256), (16, 64)] {
+        for header in [header + 1, header, header - 1, header - 2] {
+            list.open_with(1, &header.to_string());
+            list.offer([1, 1, parts, 1, 64, 1]);
+            list.offer([2, 1, parts, 1, 64, 1]);
+            list.beacons(1);
+        }
+    }
+    // The longest lives and deadlines.
+    list.open_with(1, "24");
+    list.offer([1, 3, 65_535, 65_535_001, 0, 65_535]);
+    list.offer([1, 3, 65_535, 65_535_000, 0, 65_535]);
+    list.offer([2, 3, 1, 1, 0, 1]);
+    list.beacons(1);
+    list.withdraw(1);
+    list.offer([1, 1, 8, 105, 128, 65_535]);
+    list.offer([1, 1, 8, 104, 128, 65_535]);
+    list.offer([2, 2, 255, 42_841, 42_841, 65_535]);
+    list.offer([2, 2, 255, 42_840, 261_120, 65_535]);
+    list.beacons(1);
+}
+
+/// A kind 1 request with fields in range.
+fn fraction(random: &mut Random, stream: u64, time_units: u64) -> [u64; 6] {
+    let all = slots(time_units);
+    let parts: Vec<u64> = (2..=16).filter(|&m| all.is_multiple_of(m)).collect();
+    let m = *random.pick(&parts);
+    let thin = random.between(2, 12);
+    let min = random.between(1, (all / m / thin).max(1));
+    let max = if random.chance(30) { min } else { random.between(min, all / m) };
+    [stream, 1, m, min, max, random.between(1, 6)]
+}
+
+/// A kind 2 request that needs little of what a header leaves, and could take a little or much more.
+fn modest_whole(random: &mut Random, stream: u64, time_units: u64, header: u64) -> [u64; 6] {
+    let all = slots(time_units);
+    let period = random.between(1, 3);
+    let min = random.between(1, (period * all.saturating_sub(header) / 24).max(1));
+    let max = if random.chance(50) { (2 * min).min(period * all) } else { random.between(min, period * all) };
+    [stream, 2, period, min, max, period * random.between(1, 4)]
+}
+
+/// The longest header with which there is time for all of the requests; 0 if there is none.
+fn longest_header(time_units: u64, requests: &[[u64; 6]]) -> u64 {
+    let all_fit = |header: u64| {
+        Table::open(time_units as u32, header as u32)
+            .is_ok_and(|mut table| requests.iter().all(|&request| table.offer(&plain_offer(request)).is_ok()))
+    };
+    last_that_holds(0, slots(time_units), all_fit)
+}
+
+/// A number from `from` on, below `to`, that holds while the next one does not, found by halves: `from` is
+/// taken to hold and `to` is not. Where what holds is all below some number, it is the last that holds.
+pub fn last_that_holds(from: u64, to: u64, holds: impl Fn(u64) -> bool) -> u64 {
+    let (mut last, mut beyond) = (from, to);
+    while beyond - last > 1 {
+        let middle = last + (beyond - last) / 2;
+        if holds(middle) {
+            last = middle;
+        } else {
+            beyond = middle;
+        }
+    }
+    last
+}
+
+/// A maximum with which kind 1 has a part in the next sharing and has none with one slot more, if a search in
+/// halves comes upon such a place.
+fn sharing_edge(table: &Table, request: [u64; 6], largest: u64) -> Option<u64> {
+    let [stream, kind, period, min, _, life] = request;
+    let left_out = |max: u64| {
+        let mut table = table.clone();
+        table.offer(&plain_offer([stream, kind, period, min, max, life])).ok()?;
+        Some(table.division().fractions_left_out)
+    };
+    if left_out(min)? || !left_out(largest)? {
+        return None;
+    }
+    Some(last_that_holds(min, largest, |max| left_out(max) == Some(false)))
+}
+
+/// Tables with headers of every size. Kind 1 requests go to the edge of the header test and a slot beyond,
+/// with their minimums and with their extras.
+fn header_tables(list: &mut List, random: &mut Random, tables: usize) {
+    list.open_with(1, "");
+    let Ok(table) = Table::open(1, 0) else { return };
+    let mut followed = Followed { list, table, time_units: 1 };
+    let calm = Habits { rash: 0, ..Habits::BOLD };
+    for _ in 0..tables {
+        let time_units = *random.pick(&[1, 1, 1, 2, 3, 6, 15, 100, 1_000]);
+        let mut wishes: Vec<[u64; 6]> =
+            (1..=random.between(1, 4)).map(|stream| fraction(random, stream, time_units)).collect();
+        if random.chance(50) {
+            // Streams that want no extras leave the sharing to those that come later.
+            wishes.iter_mut().for_each(|wish| wish[4] = wish[3]);
+        }
+        let longest = longest_header(time_units, &wishes);
+        if random.chance(40) {
+            followed.open(time_units, header_beyond(random, time_units));
+        }
+        let header = match random.between(0, 9) {
+            0..=1 => longest,
+            2..=3 => longest + 1,
+            4..=6 => longest - random.between(0, longest / 8),
+            _ => header_within(random, time_units),
+        };
+        followed.open(time_units, header);
+        for wish in wishes {
+            followed.offer(wish);
+        }
+        for stream in 11..=random.between(10, 13) {
+            followed.offer(modest_whole(random, stream, time_units, header));
+        }
+        for stream in 14..=random.between(13, 15) {
+            followed.offer(sensible_offer(random, stream, time_units, &calm));
+        }
+        for _ in 0..random.between(1, 3) {
+            followed.at_the_sharing(random);
+            followed.at_the_test(random);
+            followed.beacon();
+            if random.chance(50) {
+                followed.beacon();
+            }
+            followed.withdraw(random.between(1, 24));
+        }
+    }
+}
+
+impl Followed<'_> {
+    /// A kind 1 request that asks for a slot too much, and then one slot less.
+    fn at_the_test(&mut self, random: &mut Random) {
+        let stream = random.between(21, 24);
+        let shape = fraction(random, stream, self.time_units);
+        let limit = self.limit(shape);
+        if limit < self.largest_min(shape) {
+            self.offer(self.with_min(shape, limit + 1));
+        }
+        if limit > 0 && random.chance(70) {
+            self.offer(self.with_min(shape, limit));
+        }
+    }
+
+    /// A kind 1 request whose maximum is a slot too much for a part in the sharing, and at the next beacon one
+    /// whose maximum is not.
+    fn at_the_sharing(&mut self, random: &mut Random) {
+        let [stream, kind, period, _, _, life] = fraction(random, 25, self.time_units);
+        let request = [stream, kind, period, 1, 1, life];
+        for beyond in [1, 0] {
+            let Some(max) = sharing_edge(&self.table, request, self.largest_min(request)) else { return };
+            self.offer([stream, kind, period, 1, max + beyond, life]);
+            self.beacon();
+            self.withdraw(stream);
+        }
+    }
 }

@@ -84,11 +84,11 @@ impl<'a> Runs<'a> {
     }
 }
 
-/// The plan, decided at each slot by looking at every job.
-pub fn slot_by_slot(interval: Slots, jobs: &[Job]) -> Vec<Record> {
+/// The plan, decided at each slot after the header by looking at every job.
+pub fn slot_by_slot(interval: Slots, header: Slots, jobs: &[Job]) -> Vec<Record> {
     let mut needs: Vec<Slots> = jobs.iter().map(|job| job.need).collect();
     let mut runs = Runs::new(jobs);
-    for slot in (0..interval.0).map(Slots) {
+    for slot in (header.0..interval.0).map(Slots) {
         let chosen = (0..jobs.len())
             .filter(|&i| jobs[i].release <= slot && needs[i] > Slots::NONE)
             .min_by_key(|&i| (jobs[i].due, jobs[i].rank));
@@ -101,14 +101,14 @@ pub fn slot_by_slot(interval: Slots, jobs: &[Job]) -> Vec<Record> {
 }
 
 /// The plan, decided only where something changes: the job in front keeps its place until it is done or
-/// until another job is released.
-pub fn by_events(interval: Slots, jobs: &[Job]) -> Vec<Record> {
+/// until another job is released. Jobs released before the end of the header wait for it.
+pub fn by_events(interval: Slots, header: Slots, jobs: &[Job]) -> Vec<Record> {
     let mut needs: Vec<Slots> = jobs.iter().map(|job| job.need).collect();
     let mut to_come: Vec<usize> = (0..jobs.len()).filter(|&i| needs[i] > Slots::NONE).collect();
     to_come.sort_by_key(|&i| Reverse(jobs[i].release));
     let mut ready = BinaryHeap::new();
     let mut runs = Runs::new(jobs);
-    let mut now = Slots::NONE;
+    let mut now = header;
     while now < interval {
         while let Some(&i) = to_come.last()
             && jobs[i].release <= now

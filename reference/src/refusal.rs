@@ -5,6 +5,8 @@
 pub enum Refusal {
     /// Opening: the time units are outside their range.
     TimeUnits,
+    /// Opening: the header is not shorter than the interval.
+    Header,
     /// Offer: the stream number is outside its range.
     StreamNumber,
     /// Offer: the stream number is in use.
@@ -57,6 +59,7 @@ impl Refusal {
             Refusal::WindowStarts => 42,
             Refusal::RowForm => 50,
             Refusal::NotOpen => 51,
+            Refusal::Header => 61,
         }
     }
 }

@@ -96,8 +96,13 @@ impl Cutter {
 /// A call that a row stands for.
 #[derive(Clone, Copy, Debug, PartialEq, Eq)]
 pub enum Call {
-    /// `open` with its time units.
-    Open(u32),
+    /// `open` with its two numbers.
+    Open {
+        /// Time units of an interval.
+        time_units: u32,
+        /// Slots of the beacon header; 0 where the field is empty.
+        header: u32,
+    },
     /// `offer` with its six numbers.
     Offer(Offer),
     /// `withdraw` with its stream.
@@ -110,7 +115,7 @@ impl Call {
     /// The verb, as it stands in rows of input and output.
     pub const fn verb(&self) -> &'static [u8] {
         match self {
-            Call::Open(_) => b"open",
+            Call::Open { .. } => b"open",
             Call::Offer(_) => b"offer",
             Call::Withdraw(_) => b"withdraw",
             Call::Beacon => b"beacon",
@@ -122,7 +127,7 @@ impl Call {
         match self {
             Call::Offer(offer) => Some(offer.stream),
             Call::Withdraw(stream) => Some(*stream),
-            Call::Open(_) | Call::Beacon => None,
+            Call::Open { .. } | Call::Beacon => None,
         }
     }
 
@@ -143,7 +148,10 @@ impl Call {
         let [verb, numbers @ ..] = fields;
         let all_empty = |fields: &[&[u8]]| fields.iter().all(|field| field.is_empty());
         match verb {
-            b"open" if all_empty(&numbers[1..]) => Some(Call::Open(read_number(numbers[0])?)),
+            b"open" if all_empty(&numbers[2..]) => Some(Call::Open {
+                time_units: read_number(numbers[0])?,
+                header: if numbers[1].is_empty() { 0 } else { read_number(numbers[1])? },
+            }),
             b"offer" => Some(Call::Offer(Offer {
                 stream: read_number(numbers[0])?,
                 kind: read_number(numbers[1])?,
@@ -220,8 +228,8 @@ impl<W: Write> Shelf<W> {
         };
         let mut count = 0;
         let number = match (&call, self.table.as_mut()) {
-            (Call::Open(time_units), _) => {
-                let opened = Table::open(*time_units);
+            (Call::Open { time_units, header }, _) => {
+                let opened = Table::open(*time_units, *header);
                 let number = answer(&opened);
                 if let Ok(table) = opened {
                     self.table = Some(table);

@@ -12,10 +12,11 @@ pub const PLACES: usize = 32;
 /// The lengths an interval may have, in time units.
 pub const TIME_UNITS: std::ops::RangeInclusive<u32> = 1..=1_000;
 
-/// The requests held, and the length of the interval they share.
+/// The requests held, the length of the interval they share, and how much of it the beacon header takes.
 #[derive(Clone, Debug, PartialEq, Eq)]
 pub struct Table {
     interval: Slots,
+    header: Slots,
     held: Vec<Entry>,
 }
 
@@ -38,23 +39,40 @@ pub struct EnquiryAnswer {
 }
 
 impl Table {
-    /// Opens an empty table with intervals of so many time units.
-    pub fn open(time_units: u32) -> Result<Table, Refusal> {
+    /// Opens an empty table with intervals of so many time units, of which the first `header` slots are never
+    /// planned.
+    pub fn open(time_units: u32, header: u32) -> Result<Table, Refusal> {
         if !TIME_UNITS.contains(&time_units) {
             return Err(Refusal::TimeUnits);
         }
-        Ok(Table::with_interval(Slots(SLOTS_PER_TIME_UNIT * u64::from(time_units))))
+        let interval = Slots(SLOTS_PER_TIME_UNIT * u64::from(time_units));
+        let header = Slots::from_word(header);
+        if header >= interval {
+            return Err(Refusal::Header);
+        }
+        Ok(Table::with_interval(interval).with_header(header))
     }
 
-    /// An empty table with intervals of any length, for tests that want very short ones.
+    /// An empty table with intervals of any length and no header, for tests that want very short ones.
     #[doc(hidden)]
     pub fn with_interval(interval: Slots) -> Table {
-        Table { interval, held: Vec::new() }
+        Table { interval, header: Slots::NONE, held: Vec::new() }
+    }
+
+    /// The table with a header, which is to be shorter than its interval.
+    #[doc(hidden)]
+    pub fn with_header(self, header: Slots) -> Table {
+        Table { header, ..self }
     }
 
     /// Slots in one interval.
     pub fn interval(&self) -> Slots {
         self.interval
+    }
+
+    /// Slots at the beginning of each interval that are never planned.
+    pub fn header(&self) -> Slots {
+        self.header
     }
 
     /// The entries held, in no particular order.
@@ -79,7 +97,7 @@ impl Table {
             return Err(Refusal::TableFull);
         }
         self.held.push(Entry::accepted(request));
-        if ahead::fits(self.interval, &self.held) {
+        if ahead::fits(self.interval, self.header, &self.held) {
             Ok(())
         } else {
             self.held.pop();
@@ -104,17 +122,18 @@ impl Table {
 
     /// How the coming interval is divided.
     pub fn division(&self) -> Division {
-        Division::of(self.interval, &self.held).expect("an admitted table never asks kind 1 for too much")
+        Division::of(self.interval, self.header, &self.held)
+            .expect("an admitted table never asks kind 1 for too much")
     }
 
     /// The coming plan, worked out from event to event. The table stays as it is.
     pub fn plan_by_events(&self) -> Vec<Record> {
-        plan::by_events(self.interval, &self.division().jobs(self.interval, &self.held))
+        plan::by_events(self.interval, self.header, &self.division().jobs(self.interval, &self.held))
     }
 
     /// The coming plan, worked out slot by slot. The table stays as it is.
     pub fn plan_slot_by_slot(&self) -> Vec<Record> {
-        plan::slot_by_slot(self.interval, &self.division().jobs(self.interval, &self.held))
+        plan::slot_by_slot(self.interval, self.header, &self.division().jobs(self.interval, &self.held))
     }
 
     /// Writes the plan of the coming interval into `memory` and moves the table past that interval.
@@ -125,7 +144,8 @@ impl Table {
             return BeaconAnswer { answer: Refusal::PlanMemory.number(), count: 0 };
         }
         let division = self.division();
-        let records = plan::by_events(self.interval, &division.jobs(self.interval, &self.held));
+        let jobs = division.jobs(self.interval, &self.held);
+        let records = plan::by_events(self.interval, self.header, &jobs);
         let words = &mut memory[..RECORD_WORDS * records.len()];
         for (place, record) in words.chunks_exact_mut(RECORD_WORDS).zip(&records) {
             place.copy_from_slice(&record.to_words());

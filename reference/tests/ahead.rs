@@ -1,9 +1,10 @@
 //! Refusal 17 comes exactly when there is no way to serve everybody, by tests that share nothing with looking
-//! ahead: counting over windows of slots, counting over windows of intervals, and a flow on single slots.
+//! ahead: counting over windows of slots, counting over windows of intervals, and a flow on single slots. No
+//! slot of a header counts for any of them.
 
 mod common;
 
-use common::{Style, Watch, beacon, can_serve_by_flow, can_serve_by_windows, random_offer};
+use common::{Style, Watch, beacon, can_serve_by_flow, can_serve_by_windows, header_below, random_offer};
 use reference::ahead::{fits, fits_stepwise};
 use reference::random::Random;
 use reference::{Entry, Offer, Slots, Table, answer};
@@ -19,8 +20,9 @@ fn compare(seed: u64, lists: u64, intervals: &[u64], style: Style, exact: impl F
     let mut counts = Counts { yes: 0, no: 0 };
     for _ in 0..lists {
         let interval = *random.pick(intervals);
-        let mut table = Table::with_interval(Slots(interval));
-        let mut watch = Watch::new(interval);
+        let header = header_below(&mut random, interval);
+        let mut table = Table::with_interval(Slots(interval)).with_header(Slots(header));
+        let mut watch = Watch::new(interval, header);
         for _ in 0..random.between(1, 18) {
             match random.between(0, 9) {
                 0..=5 => {
@@ -57,8 +59,9 @@ fn by_flow_on_tiny_intervals() {
     let style = Style { streams: 7, life: 4, thin: 3 };
     compare(201, 20_000, &[1, 2, 3, 4, 6, 8, 12], style, |watch, offer| {
         let needs = watch.needs(offer);
-        let by_flow = can_serve_by_flow(&needs);
-        assert_eq!(by_flow, can_serve_by_windows(&needs), "the exact tests differ on {needs:?}");
+        let by_flow = can_serve_by_flow(&needs, watch.interval, watch.header);
+        let by_windows = can_serve_by_windows(&needs, watch.interval, watch.header);
+        assert_eq!(by_flow, by_windows, "the exact tests differ on {needs:?}");
         assert_eq!(by_flow, watch.can_serve_by_intervals(offer), "the exact tests differ on {needs:?}");
         by_flow
     });
@@ -68,7 +71,7 @@ fn by_flow_on_tiny_intervals() {
 fn by_windows_of_slots_on_short_intervals() {
     let style = Style { streams: 9, life: 6, thin: 5 };
     compare(202, 12_000, &[2, 5, 12, 24, 48, 60, 120], style, |watch, offer| {
-        can_serve_by_windows(&watch.needs(offer))
+        can_serve_by_windows(&watch.needs(offer), watch.interval, watch.header)
     });
 }
 
@@ -91,9 +94,10 @@ fn to_the_very_slot() {
     let mut tried = 0;
     for _ in 0..5_000 {
         let interval = *random.pick(&[12, 60, 1_024, 9_216, 1_024_000]);
+        let header = header_below(&mut random, interval);
         let style = Style { streams: 12, life: random.word(1, 12), thin: 6 };
-        let mut table = Table::with_interval(Slots(interval));
-        let mut watch = Watch::new(interval);
+        let mut table = Table::with_interval(Slots(interval)).with_header(Slots(header));
+        let mut watch = Watch::new(interval, header);
         for _ in 0..random.between(1, 4) {
             for _ in 0..random.between(1, 5) {
                 let offer = random_offer(&mut random, interval, style);
@@ -158,8 +162,9 @@ fn leaps_and_single_intervals_agree() {
             })
             .collect();
         random.shuffle(&mut entries);
-        let answer = fits(Slots(interval), &entries);
-        assert_eq!(answer, fits_stepwise(Slots(interval), &entries), "{entries:?}");
+        let header = Slots(header_below(&mut random, interval));
+        let answer = fits(Slots(interval), header, &entries);
+        assert_eq!(answer, fits_stepwise(Slots(interval), header, &entries), "{header:?} {entries:?}");
         if answer {
             yes += 1;
         } else {
@@ -176,7 +181,7 @@ fn longest_lives() {
         let [stream, kind, period, min, max, life] = words;
         answer(&table.offer(&Offer { stream, kind, period, min, max, life }))
     };
-    let mut table = Table::open(1).unwrap();
+    let mut table = Table::open(1, 0).unwrap();
     assert_eq!(ask(&mut table, [1, 1, 2, 256, 512, 65_535]), 0);
     assert_eq!(ask(&mut table, [2, 2, 1, 256, 512, 65_535]), 0);
     assert_eq!(ask(&mut table, [3, 2, 255, 128 * 255, 512, 65_535]), 14);
@@ -187,7 +192,7 @@ fn longest_lives() {
     assert_eq!(ask(&mut table, [5, 3, 1, 1, 0, 1]), 17);
     beacon(&mut table);
     assert_eq!(ask(&mut table, [5, 3, 65_535, 1_024, 0, 65_535]), 0);
-    let mut table = Table::open(1_000).unwrap();
+    let mut table = Table::open(1_000, 0).unwrap();
     assert_eq!(ask(&mut table, [1, 3, 4_194, u32::MAX, 0, 4_194]), 17);
     assert_eq!(ask(&mut table, [1, 3, 4_195, u32::MAX, 0, 4_195]), 0);
     for stream in 2..=15 {

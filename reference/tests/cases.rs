@@ -15,7 +15,7 @@ fn record(stream: u32, job: u32, start: u64, length: u64) -> Record {
 }
 
 fn case_1_table() -> Table {
-    let mut table = Table::open(1).unwrap();
+    let mut table = Table::open(1, 0).unwrap();
     assert_eq!(table.offer(&offer(5, 1, 2, 100, 300, 4)), Ok(()));
     assert_eq!(table.offer(&offer(7, 2, 2, 600, 1_000, 4)), Ok(()));
     assert_eq!(table.offer(&offer(9, 3, 1, 300, 0, 1)), Ok(()));
@@ -76,7 +76,7 @@ fn case_4() {
 
 #[test]
 fn case_5() {
-    let mut table = Table::open(1).unwrap();
+    let mut table = Table::open(1, 0).unwrap();
     table.offer(&offer(1, 2, 2, 1_024, 1_024, 2)).unwrap();
     table.offer(&offer(2, 2, 2, 1_024, 1_024, 2)).unwrap();
     beacon(&mut table);
@@ -86,20 +86,20 @@ fn case_5() {
 
 #[test]
 fn case_6() {
-    let mut table = Table::open(1).unwrap();
+    let mut table = Table::open(1, 0).unwrap();
     assert_eq!(answer(&table.offer(&offer(1, 1, 2, 512, 512, 1))), 0);
     assert_eq!(answer(&table.offer(&offer(2, 1, 2, 1, 1, 1))), 17);
 }
 
 #[test]
 fn case_7() {
-    assert_eq!(answer(&Table::open(1).unwrap().offer(&offer(1, 1, 3, 1, 1, 1))), 13);
-    assert_eq!(answer(&Table::open(3).unwrap().offer(&offer(1, 1, 3, 1, 1, 1))), 0);
+    assert_eq!(answer(&Table::open(1, 0).unwrap().offer(&offer(1, 1, 3, 1, 1, 1))), 13);
+    assert_eq!(answer(&Table::open(3, 0).unwrap().offer(&offer(1, 1, 3, 1, 1, 1))), 0);
 }
 
 #[test]
 fn case_8() {
-    let mut table = Table::open(1).unwrap();
+    let mut table = Table::open(1, 0).unwrap();
     assert_eq!(answer(&table.offer(&offer(1, 2, 2, 1, 1, 3))), 15);
     assert_eq!(answer(&table.offer(&offer(1, 2, 2, 1, 1, 4))), 0);
 }
@@ -136,7 +136,7 @@ fn case_10() {
     let done = table.beacon(&mut enough);
     assert_eq!((done.answer, done.count), (0, 5));
     assert!(enough[20..].iter().all(|&word| word == 7));
-    let mut empty = Table::open(1).unwrap();
+    let mut empty = Table::open(1, 0).unwrap();
     let done = empty.beacon(&mut enough[20..]);
     assert_eq!((done.answer, done.count), (30, 0));
     let mut untouched = vec![7; PLAN_WORDS];
@@ -148,9 +148,10 @@ fn case_10() {
 #[test]
 fn opening_range() {
     for (time_units, number) in [(0, 1), (1, 0), (2, 0), (999, 0), (1_000, 0), (1_001, 1), (u32::MAX, 1)] {
-        assert_eq!(answer(&Table::open(time_units)), number);
+        assert_eq!(answer(&Table::open(time_units, 0)), number);
     }
-    assert_eq!(Table::open(1_000).unwrap().interval(), Slots(1_024_000));
+    assert_eq!(Table::open(1_000, 0).unwrap().interval(), Slots(1_024_000));
+    assert_eq!(Table::open(1_000, 0).unwrap().header(), Slots(0));
 }
 
 #[test]
@@ -237,7 +238,7 @@ fn entries_over_time() {
 
 #[test]
 fn refusals_of_an_offer_in_order() {
-    let mut table = Table::open(1).unwrap();
+    let mut table = Table::open(1, 0).unwrap();
     let ask = |table: &mut Table, words: [u32; 6]| {
         let [stream, kind, period, min, max, life] = words;
         let before = table.clone();
@@ -309,7 +310,7 @@ fn refusals_of_an_offer_in_order() {
 #[test]
 fn ties_go_as_they_should() {
     // Pieces of both kinds and deadlines, and streams of kind 1 whose last jobs are due with the pieces.
-    let mut table = Table::open(1).unwrap();
+    let mut table = Table::open(1, 0).unwrap();
     for words in [
         offer(30, 3, 2, 600, 0, 2),
         offer(40, 2, 2, 10, 10, 2),

@@ -1,9 +1,9 @@
 //! Along random lists of calls, every completed period has between its minimum and its maximum, and every
-//! transfer that reaches its deadline has just its amount.
+//! transfer that reaches its deadline has just its amount. No plan gives a slot of the header.
 
 mod common;
 
-use common::{Style, Watch, beacon, random_offer};
+use common::{Style, Watch, beacon, header_below, random_offer};
 use reference::random::Random;
 use reference::{Offer, Slots, Table, answer};
 
@@ -16,7 +16,7 @@ fn wild_offer(random: &mut Random) -> Offer {
 
 fn history(random: &mut Random, mut table: Table, calls: u64, style: Style) -> u64 {
     let interval = table.interval().0;
-    let mut watch = Watch::new(interval);
+    let mut watch = Watch::new(interval, table.header().0);
     for _ in 0..calls {
         match random.between(0, 99) {
             0..=39 => {
@@ -76,7 +76,9 @@ fn short_intervals() {
         let interval = random.between(1, 240);
         let style =
             Style { streams: random.word(1, 40), life: random.word(1, 9), thin: random.between(1, 30) };
-        completed += history(&mut random, Table::with_interval(Slots(interval)), 120, style);
+        let header = header_below(&mut random, interval);
+        let table = Table::with_interval(Slots(interval)).with_header(Slots(header));
+        completed += history(&mut random, table, 120, style);
     }
     assert!(completed > 100_000, "{completed}");
 }
@@ -89,7 +91,8 @@ fn real_intervals() {
         let time_units = *random.pick(&[1, 1, 2, 3, 7, 15, 63, 100, 990, 1_000]);
         let style =
             Style { streams: random.word(1, 40), life: random.word(1, 12), thin: *random.pick(&[2, 10, 40]) };
-        completed += history(&mut random, Table::open(time_units).unwrap(), 150, style);
+        let header = header_below(&mut random, 1_024 * u64::from(time_units)) as u32;
+        completed += history(&mut random, Table::open(time_units, header).unwrap(), 150, style);
     }
     assert!(completed > 50_000, "{completed}");
 }
@@ -99,6 +102,7 @@ fn long_periods() {
     let mut random = Random::new(303);
     for _ in 0..12 {
         let style = Style { streams: 15, life: 300, thin: 8 };
-        history(&mut random, Table::open(1).unwrap(), 2_000, style);
+        let header = random.word(0, 100);
+        history(&mut random, Table::open(1, header).unwrap(), 2_000, style);
     }
 }

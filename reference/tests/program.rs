@@ -115,6 +115,45 @@ fn before_and_between_openings() {
 }
 
 #[test]
+fn headers_of_openings() {
+    for (row, answer) in [
+        ("open,1,,,,,", "open,,,,,0"),
+        ("open,1,0,,,,", "open,,,,,0"),
+        ("open,1,1,,,,", "open,,,,,0"),
+        ("open,1,1023,,,,", "open,,,,,0"),
+        ("open,1,0000001023,,,,", "open,,,,,0"),
+        ("open,0000000001,0000001023,,,,", "open,,,,,0"),
+        ("open,1,1024,,,,", "open,,,,,61"),
+        ("open,1,4294967295,,,,", "open,,,,,61"),
+        ("open,2,1024,,,,", "open,,,,,0"),
+        ("open,0,0,,,,", "open,,,,,1"),
+        ("open,0,1024,,,,", "open,,,,,1"),
+        ("open,1001,4294967295,,,,", "open,,,,,1"),
+        ("open,1,4294967296,,,,", "row,,,,,50"),
+        ("open,0,4294967296,,,,", "row,,,,,50"),
+        ("open,1,00000000001,,,,", "row,,,,,50"),
+        ("open,1,x,,,,", "row,,,,,50"),
+        ("open,1, ,,,,", "row,,,,,50"),
+        ("open,1,-1,,,,", "row,,,,,50"),
+        ("open,1,\"\",,,,", "row,,,,,50"),
+        ("open,,1,,,,", "row,,,,,50"),
+        ("open,1,,1,,,", "row,,,,,50"),
+        ("open,1,1,1,,,", "row,,,,,50"),
+        ("open,1,1,,,,1", "row,,,,,50"),
+        ("open,1,1,,,", "row,,,,,50"),
+        ("open,1,1,,,,,", "row,,,,,50"),
+    ] {
+        assert_eq!(body(row.as_bytes()), format!("{answer}\r\n"), "{row}");
+    }
+    // A refused header leaves the table of an earlier opening, and without one there is still none.
+    let input = "open,1,1024,,,,\r\nbeacon,,,,,,\r\nopen,1,3,,,,\r\noffer,7,3,1,2,0,1\r\nopen,2,2048,,,,\r\n\
+        open,0,2048,,,,\r\nopen,2,x,,,,\r\nbeacon,,,,,,\r\n";
+    let output = "open,,,,,61\r\nbeacon,,,,,51\r\nopen,,,,,0\r\noffer,7,,,,0\r\nopen,,,,,61\r\n\
+        open,,,,,1\r\nrow,,,,,50\r\nbeacon,,,,,0\r\nslot,7,0,3,2,\r\n";
+    assert_eq!(body(input.as_bytes()), output);
+}
+
+#[test]
 fn numbers() {
     for (text, value) in [
         ("0", Some(0)),
@@ -220,7 +259,8 @@ fn plainly_a_call(row: &[u8]) -> bool {
     text.len() <= 64
         && fields.len() == 7
         && match fields[0] {
-            "open" | "withdraw" => number(fields[1]) && empty(2),
+            "open" => number(fields[1]) && (fields[2].is_empty() || number(fields[2])) && empty(3),
+            "withdraw" => number(fields[1]) && empty(2),
             "offer" => fields[1..].iter().all(|field| number(field)),
             "beacon" => empty(1),
             _ => false,
@@ -264,9 +304,11 @@ fn random_bytes() {
 #[test]
 fn damaged_lists() {
     let mut random = Random::new(403);
-    for seed in 0..25 {
-        check_rows(&lists::make("damaged", seed, 400).unwrap());
-        let mut input = lists::make("mix", seed, 300).unwrap();
+    for seed in 0..50 {
+        let [damaged, mix] =
+            if seed % 2 == 0 { ["damaged", "mix"] } else { ["headed-damaged", "headed-mix"] };
+        check_rows(&lists::make(damaged, seed, 400).unwrap());
+        let mut input = lists::make(mix, seed, 300).unwrap();
         for _ in 0..random.between(1, 60) {
             let at = random.between(0, input.len() as u64 - 1) as usize;
             match random.between(0, 3) {
@@ -286,7 +328,7 @@ fn damaged_lists() {
 
 #[test]
 fn every_chunking_gives_the_same() {
-    for name in lists::NAMES {
+    for name in lists::NAMES.into_iter().chain(lists::HEADED) {
         let input = lists::make(name, 5, lists::usual_size(name).min(400)).unwrap();
         let whole = run_bytes(&input);
         for size in [1, 7, 63, 64, 65, 4_096] {

@@ -57,7 +57,7 @@ fn every_refusal_appears() {
             }
         }
     }
-    let expected: BTreeSet<u32> = [0, 1, 10, 11, 12, 13, 14, 15, 16, 17, 20, 50, 51].into();
+    let expected: BTreeSet<u32> = [0, 1, 10, 11, 12, 13, 14, 15, 16, 17, 20, 50, 51, 61].into();
     assert_eq!(seen, expected);
     assert!(bytes < 2_000_000, "{bytes} bytes of stored data");
 }
@@ -70,10 +70,18 @@ fn the_generator_program_repeats_itself() {
     };
     assert_eq!(make(&["mix", "3", "50"]), (true, lists::make("mix", 3, 50).unwrap()));
     assert_eq!(make(&["school", "9"]), (true, lists::make("school", 9, 1).unwrap()));
+    assert_eq!(make(&["headed-mix", "3", "50"]), (true, lists::make("headed-mix", 3, 50).unwrap()));
+    assert_ne!(make(&["headed-mix", "3", "50"]), make(&["mix", "3", "50"]));
     assert_ne!(make(&["mix", "4", "50"]), make(&["mix", "3", "50"]));
-    for wrong in
-        [&[][..], &["mix"], &["nothing", "1"], &["mix", "x"], &["mix", "1", "x"], &["mix", "1", "2", "3"]]
-    {
+    for wrong in [
+        &[][..],
+        &["mix"],
+        &["nothing", "1"],
+        &["headed-long", "1"],
+        &["mix", "x"],
+        &["mix", "1", "x"],
+        &["mix", "1", "2", "3"],
+    ] {
         assert_eq!(make(wrong), (false, Vec::new()));
     }
 }

@@ -8,7 +8,7 @@ fn offer([stream, kind, period, min, max, life]: [u32; 6]) -> Offer {
 
 /// The streams of case 1 of document 01, held at one time unit.
 fn two_streams() -> Eaciar {
-    let mut planner = Eaciar::open(1);
+    let mut planner = Eaciar::open(1, 0);
     assert_eq!(planner.offer(&offer([5, 1, 2, 100, 300, 4])), 0);
     assert_eq!(planner.offer(&offer([7, 2, 2, 600, 1_000, 4])), 0);
     planner
@@ -56,7 +56,7 @@ fn surplus_beside_a_transfer() {
 /// Case 5: the sum of utilizations is 1/2 + 1/1,024, but the interval has no slot to spare.
 #[test]
 fn departures_mislead_the_sum() {
-    let mut planner = Eaciar::open(1);
+    let mut planner = Eaciar::open(1, 0);
     assert_eq!(planner.offer(&offer([1, 2, 2, 1_024, 1_024, 2])), 0);
     assert_eq!(planner.offer(&offer([2, 2, 2, 1_024, 1_024, 2])), 0);
     assert_eq!(runs(&mut planner), [[1, 0, 1_024]]);
@@ -68,7 +68,7 @@ fn departures_mislead_the_sum() {
 /// A whole stream may ask more than an interval has: the rest waits, and an exact fit is no miss.
 #[test]
 fn more_than_an_interval() {
-    let mut planner = Eaciar::open(1);
+    let mut planner = Eaciar::open(1, 0);
     assert_eq!(planner.offer(&offer([1, 2, 2, 1_500, 1_500, 2])), 0);
     assert_eq!(planner.offer(&offer([2, 3, 2, 549, 0, 2])), 17);
     assert_eq!(planner.offer(&offer([2, 3, 2, 548, 0, 2])), 0);

@@ -11,7 +11,7 @@ pub struct Table {
 }
 
 impl Table {
-    const WORDS: usize = 1 + PLACES * (size_of::<Entry>() / size_of::<u32>());
+    const WORDS: usize = 2 + PLACES * (size_of::<Entry>() / size_of::<u32>());
 
     /// No table yet: opening writes every word.
     pub const ZERO: Table = Table { words: [0; Table::WORDS] };
@@ -65,7 +65,7 @@ pub struct Place {
 }
 
 unsafe extern "C" {
-    pub fn gelmush_open(table: *mut Table, units: u32) -> u32;
+    pub fn gelmush_open(table: *mut Table, units: u32, header: u32) -> u32;
     pub fn gelmush_offer(
         table: *mut Table,
         stream: u32,

@@ -53,18 +53,19 @@ fn answered(number: u32) -> Result<(), Refused> {
 }
 
 impl Shelf {
-    /// Opens a table whose intervals have so many time units.
-    pub fn open(units: u32) -> Result<Shelf, Refused> {
+    /// Opens a table whose intervals have so many time units. The first slots, as many as `header` says, are the
+    /// header's, and no plan gives them.
+    pub fn open(units: u32, header: u32) -> Result<Shelf, Refused> {
         let mut table = ffi::Table::ZERO;
         // SAFETY: opening asks nothing of the table's words.
-        answered(unsafe { ffi::gelmush_open(&mut table, units) })?;
+        answered(unsafe { ffi::gelmush_open(&mut table, units, header) })?;
         Ok(Shelf { table })
     }
 
     /// Opens again in the same place. Refused, the table stays as it is.
-    pub fn reopen(&mut self, units: u32) -> Result<(), Refused> {
+    pub fn reopen(&mut self, units: u32, header: u32) -> Result<(), Refused> {
         // SAFETY: as for `open`; either way the table is one that opening and later calls have given.
-        answered(unsafe { ffi::gelmush_open(&mut self.table, units) })
+        answered(unsafe { ffi::gelmush_open(&mut self.table, units, header) })
     }
 
     /// Offers a request.

@@ -65,7 +65,10 @@ impl List {
                 Call::Offer(Offer { stream, kind, period, min: word(), max: word(), life: word() })
             }
             40..=46 => Call::Withdraw { stream: random.word(0, style.streams + 1) },
-            47 => Call::Open { units: wild(random) % 1_003 },
+            47 => {
+                let units = wild(random) % 1_003;
+                Call::Open { units, header: random_header(random, units) }
+            }
             48 => {
                 let most = PLAN_WORDS as u64 - 1;
                 let words = if random.chance(50) { most } else { random.between(0, most) } as usize;
@@ -102,9 +105,24 @@ impl List {
     }
 }
 
+/// None half of the time, else short, long, around the end of the interval, or any number.
+fn random_header(random: &mut Random, units: u32) -> u32 {
+    let slots = 1_024 * units;
+    match random.between(0, 9) {
+        0..=4 => 0,
+        5 => random.word(0, 64),
+        6..=7 => random.word(0, slots),
+        8 => (slots + 1).saturating_sub(random.word(0, 3)),
+        _ => wild(random),
+    }
+}
+
 fn random_list(random: &mut Random) -> List {
     let mut list = List::default();
-    list.add(Call::Open { units: *random.pick(&[1, 1, 1, 2, 3, 7, 15, 63, 100, 990, 1_000]) });
+    let units = *random.pick(&[1, 1, 1, 2, 3, 7, 15, 63, 100, 990, 1_000]);
+    // The first opening succeeds, so that there is a table.
+    let header = random_header(random, units) % (1_024 * units);
+    list.add(Call::Open { units, header });
     let (life, thin) = *random.pick(&[(1, 2), (4, 10), (12, 40), (60, 1_000)]);
     let style = Style { streams: random.word(1, 60), life, thin };
     if random.chance(10) {
@@ -124,15 +142,22 @@ fn random_list(random: &mut Random) -> List {
 fn random_calls() {
     let mut random = Random::new(701);
     let seen: BTreeSet<u32> = (0..700).flat_map(|_| random_list(&mut random).compare()).collect();
-    let every = [0, 1, 10, 11, 12, 13, 14, 15, 16, 17, 20, 30, 40, 41, 42];
+    let every = [0, 1, 10, 11, 12, 13, 14, 15, 16, 17, 20, 30, 40, 41, 42, 61];
     assert_eq!(seen, BTreeSet::from(every));
 }
 
 #[test]
 fn openings() {
     for units in [0, 1, 2, 999, 1_000, 1_001, 65_536, u32::MAX] {
-        let seen = List::of(&[Call::Open { units }]).compare();
-        assert_eq!(seen, BTreeSet::from([u32::from(!(1..=1_000).contains(&units))]));
+        for header in [0, 1, 1_023, 1_024, 2_047, 2_048, 1_023_999, 1_024_000, u32::MAX] {
+            let seen = List::of(&[Call::Open { units, header }]).compare();
+            let answer = match units {
+                1..=1_000 if header < 1_024 * units => 0,
+                1..=1_000 => 61,
+                _ => 1,
+            };
+            assert_eq!(seen, BTreeSet::from([answer]));
+        }
     }
 }
 
@@ -140,7 +165,7 @@ fn openings() {
 fn counts_past_32_bits() {
     let offer = Offer { stream: 5, kind: 1, period: 2, min: 100, max: 100, life: 1 };
     let beacon = Call::Beacon { words: PLAN_WORDS, seed: 0 };
-    let mut list = List::of(&[Call::Open { units: 1 }, Call::Offer(offer), beacon]);
+    let mut list = List::of(&[Call::Open { units: 1, header: 0 }, Call::Offer(offer), beacon]);
     for (count, answer) in [(2, 0), (1 << 32, 40), ((1 << 32) + 2, 40), ((1 << 62) + 2, 40), (usize::MAX, 40)]
     {
         list.add(Call::Window { count, from: 0, until: 1_024, damage: Vec::new() });
@@ -151,7 +176,7 @@ fn counts_past_32_bits() {
 
 #[test]
 fn more_words_than_a_plan_and_long_lines() {
-    let mut list = List::of(&[Call::Open { units: 1 }, Call::Beacon { words: 5_200, seed: 1 }]);
+    let mut list = List::of(&[Call::Open { units: 1, header: 0 }, Call::Beacon { words: 5_200, seed: 1 }]);
     let damage = (0..1_200).map(|record| (RECORD_WORDS * record + 2, record as u32)).collect();
     list.add(Call::Window { count: 1_200, from: 100, until: 1_024, damage });
     assert_eq!(
@@ -171,7 +196,7 @@ fn from_c_no_call_before_an_opening() {
         Call::Window { count: 0, from: 0, until: 0, damage: Vec::new() },
     ];
     for call in calls {
-        let output = ways::program::run(&[Call::Open { units: 0 }, call]);
+        let output = ways::program::run(&[Call::Open { units: 0, header: 0 }, call]);
         assert!(!output.status.success());
         assert_eq!(String::from_utf8_lossy(&output.stdout), "1 0 0\n");
         assert_eq!(String::from_utf8_lossy(&output.stderr), "calls: line 2: no table is open\n");

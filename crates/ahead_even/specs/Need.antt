@@ -14,11 +14,11 @@ use Rattle.spec_model.specs.declared.Table.{Table}
 use Rattle.spec_model.specs.Tables.{heldOf}
 use Rattle.spec_model.specs.Frames.{roomIn}
 use Rattle.spec_rules.specs.Share.{load, loadOf}
-use Rattle.spec_rules.specs.Ahead.{fitsAhead}
 use Rattle.spec_rules.specs.WellFormed.{Tidy}
 use Rattle.law_model.specs.Loads.{load-of-free, load-of-most}
 use Rattle.law_steps.specs.Places.{load-places}
 use Rattle.law_ahead.specs.Tables.{tidy-together}
+use Rattle.law_ahead.specs.KeepsUp.{keepsUpAhead}
 use Rattle.law_ahead.specs.Even.{evenly, even-ahead}
 use Rattle.table_queue.specs.Queues.{largest32}
 
@@ -61,7 +61,7 @@ pub needs-places : (t : Table) → Tidy t → sumOf evenNeed (t .entries) ≡ lo
 needs-places t w = needs-apart (t .entries) ∙ ap (λ n. n + sumOf evenly (t .entries)) (load-places t w)
 
 -- an interval has as much: looking ahead says yes
-pub even-enough : (t : Table) → Tidy t → sumOf evenNeed (t .entries) ≤ roomIn (t .frame) → fitsAhead (t .frame) (heldOf t) ≡ true
+pub even-enough : (t : Table) → Tidy t → sumOf evenNeed (t .entries) ≤ roomIn (t .frame) → keepsUpAhead (t .frame) (heldOf t) ≡ true
 even-enough t w h =
     even-ahead (t .frame) (heldOf t) (tidy-together w)
     (omega (arith, needs-places t w, sum-keep-le evenly isHeld (t .entries)))

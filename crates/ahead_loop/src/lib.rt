@@ -1,9 +1,10 @@
-// Looking ahead: steps A, B and F in turn until every life is used up. Document 01, "Looking ahead".
+// Looking ahead: steps A, B and F in turn until every life is used up. Document 01, "Looking ahead". The header test, which holds in all
+// intervals where it holds in the first, is made apart: crate header_test.
 ghost use mathlib.Core.Path.{_≡_};
 ghost use Prim.Native.Nat.{_+_, _<_, max};
 ghost use Rattle.spec_model.specs.Tables.{places, heldOf, putIn};
-ghost use Rattle.spec_rules.specs.Ahead.{fitsAhead};
 ghost use Rattle.spec_rules.specs.WellFormed.{Tidy};
+ghost use Rattle.law_ahead.specs.KeepsUp.{keepsUpAhead};
 ghost use Rattle.table_queue.specs.Queues.{Used};
 ghost use Rattle.ahead_figures.specs.Columns.{columns};
 ghost use Rattle.law_figures.specs.Looking.{Begun, Says};
@@ -73,10 +74,10 @@ fn used_with(used: usize, place: usize) -> usize
 }
 
 // Looks ahead from the table with the entry at its place. The table is only read: what changes from end to end are its figures.
-pub fn fits_ahead(t: Table, used: usize, place: usize, e: Entry) -> bool
+pub fn keeps_up_ahead(t: Table, used: usize, place: usize, e: Entry) -> bool
     requires { ⌜ Tidy t × Used used t ⌝ }
     requires { ⌜ (place < places) × Tidy (putIn t place e) ⌝ }
-    ensures { λ r. ⌜ r ≡ fitsAhead (t .frame) (heldOf (putIn t place e)) ⌝ }
+    ensures { λ r. ⌜ r ≡ keepsUpAhead (t .frame) (heldOf (putIn t place e)) ⌝ }
 {
     let room = spec_model::room_in(t.frame);
     let mut ranks = [0u64; spec_model::PLACES];
@@ -124,10 +125,10 @@ pub fn fits_ahead(t: Table, used: usize, place: usize, e: Entry) -> bool
 }
 
 // Looks ahead from a table alone: it is itself with the entry of its first place put there.
-pub fn fits(t: Table, used: usize) -> bool
+pub fn keeps_up(t: Table, used: usize) -> bool
     requires { ⌜ Tidy t × Used used t ⌝ }
-    ensures { λ r. ⌜ r ≡ fitsAhead (t .frame) (heldOf t) ⌝ }
+    ensures { λ r. ⌜ r ≡ keepsUpAhead (t .frame) (heldOf t) ⌝ }
 {
     let e = t.entries[0];
-    fits_ahead(t, used, 0, e)
+    keeps_up_ahead(t, used, 0, e)
 }

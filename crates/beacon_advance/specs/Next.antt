@@ -1,17 +1,19 @@
 -- A table moved on by the grants that document 01 names, step F of "One beacon": by any lists of them, and by those of steps B and C.
 -- Assumes nothing.
 use mathlib.Core.Path.{_≡_, sym, ap, _∙_}
+use mathlib.Core.Bool.{cond}
 use mathlib.Core.List.{List, map, map-id}
-use Prim.Native.Nat.{ℕ, _<_}
+use Prim.Native.Nat.{ℕ, _≤_, _<_}
 use native.Mathlib.Omega.{arith}
 use lib.ListN.{length, length-map}
 use Rattle.spec_lists.specs.All.{All}
+use Rattle.base_lists.specs.Tests.{cond-le}
 use Rattle.base_lists.specs.All.{all-at, all-map, map-ext}
 use Rattle.spec_model.specs.Entries.{freeEntry}
 use Rattle.spec_model.specs.Tables.{heldOf, withEntries}
 use Rattle.spec_model.specs.declared.Entry.{Entry}
 use Rattle.spec_model.specs.declared.Table.{Table}
-use Rattle.spec_rules.specs.Share.{Grant, slotsFor, stepB, stepC}
+use Rattle.spec_rules.specs.Share.{Grant, slotsFor, headroom, stepB, stepC}
 use Rattle.spec_rules.specs.Ahead.{stepF}
 use Rattle.spec_rules.specs.Calls.{advanced}
 use Rattle.spec_rules.specs.WellFormed.{Tidy}
@@ -20,7 +22,7 @@ use Rattle.law_steps.specs.Extras.{extra-le}
 use Rattle.law_steps.specs.Closed.{at-places, had-most}
 use Rattle.table_queue.specs.Zips.{zip, zip-map}
 use Rattle.table_queue.specs.Queues.{Used}
-use Rattle.beacon_share.specs.Shares.{granted, sharingOf, sharesOf, grantOf, grant-found, grants-right}
+use Rattle.beacon_share.specs.Shares.{granted, among, sharingOf, sharesOf, grantOf, grant-found, grants-right}
 use Rattle.beacon_share.specs.declared.Granted.{Granted}
 use Rattle.beacon_share.specs.declared.Shares.{Shares}
 use Rattle.beacon_share.specs.declared.Sharing.{Sharing}
@@ -59,7 +61,16 @@ module _ (t : Table) (w : Tidy t) where
       (ap (λ (x : Shares). x .grants) e)
 
   grants-within : (s : Sharing) → All (λ e. WithinAmounts (grantOf s (t .entries) e) e) (t .entries)
-  grants-within s = had-most t w (s .capacity .0) (λ e. grantOf s (t .entries) e .extra .0) (λ e. extra-le _ _ _)
+  grants-within s = had-most t w (s .capacity .0) (λ e. grantOf s (t .entries) e .extra .0) within
+    where
+      within : (e : Entry) → grantOf s (t .entries) e .extra .0 ≤ headroom e (grantOf s (t .entries) e .piece .0)
+      within e =
+          let d = headroom e (grantOf s (t .entries) e .piece .0) in
+          omega (
+            arith,
+            extra-le (s .remains .0) (s .weight) (cond (among (s .fractions) e) d 0),
+            cond-le (among (s .fractions) e) d,
+          )
 
   pub shares-movable : {n : ℕ} {s : Shares} → Used n t → s ≡ sharesOf t → Movable t n s
   shares-movable {n} {s} u e = record {

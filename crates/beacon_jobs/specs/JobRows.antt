@@ -12,20 +12,22 @@ use Rattle.base_lists.specs.All.{all-map, all-of-map, all-keep}
 use Rattle.base_lists.specs.Sums.{sum-keep-le}
 use Rattle.spec_model.specs.Entries.{freeEntry, isHeld}
 use Rattle.spec_model.specs.Names.{nobody}
-use Rattle.spec_model.specs.Frames.{slotsIn}
+use Rattle.spec_model.specs.Frames.{slotsIn, headerIn}
 use Rattle.spec_model.specs.Tables.{places, heldOf}
 use Rattle.spec_model.specs.declared.Frame.{Frame}
 use Rattle.spec_model.specs.declared.Name.{Name}
 use Rattle.spec_model.specs.declared.Entry.{Entry}
 use Rattle.spec_model.specs.declared.Table.{Table}
 use Rattle.spec_rules.specs.Share.{Grant, jobCount, stepB, stepC}
-use Rattle.spec_rules.specs.Slots.{Job, jobsFrom, jobsOf, jobNeed, jobLength, jobs, tieOrder, stepD, stepE}
+use Rattle.spec_rules.specs.Slots.{Job, jobsFrom, jobsOf, jobNeed, jobLength, jobs, tieOrder, slotsFrom, runsFrom}
 use Rattle.spec_rules.specs.Calls.{planOf}
 use Rattle.spec_rules.specs.WellFormed.{Tidy}
 use Rattle.law_steps.specs.Places.{tidy-held}
 use Rattle.law_steps.specs.Closed.{slots-most}
 use Rattle.law_ahead.specs.Tables.{tidy-together}
+use Rattle.law_model.specs.Frames.{room-less}
 use Rattle.law_interval.specs.Jobs.{tie-sum, all-tie, jobs-keys}
+use Rattle.law_interval.specs.Plan.{plan-runs}
 use Rattle.law_steps.specs.Ranks.{rank}
 use Rattle.table_queue.specs.Queues.{Used, jobs-few}
 use Rattle.beacon_share.specs.Shares.{sharingOf, grantOf, grants-right}
@@ -114,9 +116,11 @@ module _ (t : Table) (w : Tidy t) where
         names = skipped-names table-skipped (jobs-keys (tidy-together w));
       }
 
-  rows-plan : rowPlan (slotsIn F) (map nameIn os) (map (jobLength F) os) (map (rowBy sh (t .entries)) os) ≡ planOf t
-  unfolding planOf stepE stepD
-  rows-plan = plan-skipped (slotsIn F) _ _ _ table-skipped
+  rows-plan : rowPlan (slotsIn F) (headerIn F) (map nameIn os) (map (jobLength F) os) (map (rowBy sh (t .entries)) os) ≡ planOf t
+  unfolding planOf
+  rows-plan =
+      plan-skipped (slotsIn F) (headerIn F) _ _ _ table-skipped
+      ∙ sym (plan-runs F es ∙ ap (λ n. runsFrom (headerIn F) (slotsFrom n (headerIn F) (jobs F es))) (room-less F))
 
   -- a row has room for the jobs
   counts-few : All (λ e. jobCount e ≤ 16) os
@@ -151,7 +155,7 @@ module _ (t : Table) (w : Tidy t) {n : ℕ} (u : Used n t) {o : Order} (e : o �
     needs-made : needRows cs ns ≡ map (rowBy (sharingOf t) (t .entries)) (rowsIn t o)
     needs-made = rw (m .counts, m .needs) (needs-map jobCount (needIn t) (rowsIn t o))
 
-    pub plan-made : Rows (slotsIn (t .frame)) ss Ts (needRows cs ns) × (rowPlan (slotsIn (t .frame)) ss Ts (needRows cs ns) ≡ planOf t)
+    pub plan-made : Rows (slotsIn (t .frame)) ss Ts (needRows cs ns) × (rowPlan (slotsIn (t .frame)) (headerIn (t .frame)) ss Ts (needRows cs ns) ≡ planOf t)
     plan-made = rw (m .names, m .lengths, needs-made, rows-tied) (rows-fit t w, rows-plan t w)
 
     pub spare-made : (o .count ≤ places) × Spare (slotsIn (t .frame)) (o .count) Ts (needRows cs ns)

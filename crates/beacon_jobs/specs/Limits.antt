@@ -6,6 +6,7 @@ use native.Mathlib.Nat.{le-refl, mul-le-mul-left, mul-le-mul-right}
 use native.Mathlib.Omega.{arith}
 use borrow.Author.Tests.{eq-eqb}
 use Rattle.spec_lists.specs.All.{All}
+use Rattle.base_lists.specs.Tests.{cond-le}
 use Rattle.base_lists.specs.All.{all-keep}
 use Rattle.spec_model.specs.Entries.{freeEntry, isHeld, isKind}
 use Rattle.spec_model.specs.Frames.{slotsIn, partOf}
@@ -13,15 +14,15 @@ use Rattle.spec_model.specs.Tables.{heldOf}
 use Rattle.spec_model.specs.declared.Frame.{Frame}
 use Rattle.spec_model.specs.declared.Entry.{Entry}
 use Rattle.spec_model.specs.declared.Table.{Table}
-use Rattle.spec_rules.specs.Share.{capacity, headroom, remains, stepB, weight, everyone}
+use Rattle.spec_rules.specs.Share.{capacity, headroom}
 use Rattle.spec_rules.specs.Slots.{jobLength}
 use Rattle.spec_rules.specs.WellFormed.{Tidy}
-use Rattle.law_model.specs.Frames.{room-slots, frame-some}
+use Rattle.law_model.specs.Frames.{room-most, frame-some}
 use Rattle.law_steps.specs.Held.{Fraction, Piece, not-fraction}
 use Rattle.law_steps.specs.Extras.{extra-le}
 use Rattle.law_steps.specs.Settled.{headroom-fraction, headroom-whole, headroom-transfer}
 use Rattle.law_steps.specs.Closed.{takes-owed, takes-most, slots-most, by-kind}
-use Rattle.beacon_share.specs.Shares.{sharingOf, grantOf}
+use Rattle.beacon_share.specs.Shares.{among, sharingOf, grantOf}
 use Rattle.beacon_share.specs.declared.Sharing.{Sharing}
 use Rattle.beacon_plan.specs.Rows.{Length}
 use Rattle.beacon_jobs.specs.Needs.{needBy, Narrow}
@@ -44,10 +45,15 @@ module _ (t : Table) (w : Tidy t) where
   more e = grantOf sh (t .entries) e .extra .0
 
   more-le : (e : Entry) → more e ≤ headroom e (piece e)
-  more-le e = extra-le (remains F (heldOf t)) (weight everyone (stepB F (heldOf t)) (heldOf t)) (headroom e (piece e))
+  more-le e =
+      omega (
+        arith,
+        extra-le (sh .remains .0) (sh .weight) (cond (among (sh .fractions) e) (headroom e (piece e)) 0),
+        cond-le (among (sh .fractions) e) (headroom e (piece e)),
+      )
 
   piece-le : (e : Entry) → piece e ≤ B
-  piece-le e = omega (arith, room-slots F, takes-most (capacity F (heldOf t)) (t .entries) e)
+  piece-le e = omega (arith, room-most F, takes-most (capacity F (heldOf t)) (t .entries) e)
 
   -- a free place's one job needs nothing
   pub free-none : needBy (grantOf sh (t .entries) freeEntry) freeEntry ≡ 0

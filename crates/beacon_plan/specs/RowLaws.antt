@@ -2,7 +2,7 @@
 -- and rows have the plan of any jobs that they are but for some that need nothing. Assumes nothing.
 use mathlib.Core.Path.{_≡_, refl, sym, ap, subst, _∙_}
 use mathlib.Core.List.{List, [], _∷_, _++_}
-use Prim.Native.Nat.{ℕ, zero, suc, _+_, _*_, _≤_, _<_, zero-le}
+use Prim.Native.Nat.{ℕ, zero, suc, _+_, _*_, _-_, _≤_, _<_, zero-le}
 use native.Mathlib.Nat.{le-refl}
 use native.Mathlib.Omega.{arith}
 use lib.Dec.{ltb}
@@ -14,7 +14,7 @@ use Rattle.spec_lists.specs.All.{All, stop, and}
 use Rattle.base_lists.specs.All.{head, tail, all-at, all-append}
 use Rattle.base_lists.specs.Sums.{sum-append, sum-keep-le}
 use Rattle.spec_rules.specs.Slots.{Job, jobAt, jobsFrom, slotsFrom, runsFrom}
-use Rattle.law_slots.specs.Count.{toCome, ahead, few-runs}
+use Rattle.law_slots.specs.Count.{toCome, ahead, few-runs, come-later}
 use Rattle.spec_model.specs.Names.{nobody}
 use Rattle.spec_model.specs.Tables.{places}
 use Rattle.spec_model.specs.declared.Name.{Name}
@@ -117,15 +117,16 @@ rows-come (s ∷ ss) (T ∷ Ts) (ns ∷ nss) w =
       rows-come ss Ts nss (tail w),
     )
 
-pub plan-few : {b : ℕ} {ss : List Name} {Ts : List ℕ} {nss : List (List ℕ)} → Rows b ss Ts nss → length nss ≡ places → Wide nss
-    → length (rowPlan b ss Ts nss) ≤ fewRuns
+pub plan-few : {b : ℕ} (h : ℕ) {ss : List Name} {Ts : List ℕ} {nss : List (List ℕ)} → Rows b ss Ts nss → length nss ≡ places → Wide nss
+    → length (rowPlan b h ss Ts nss) ≤ fewRuns
 unfolding rowPlan
-plan-few {b} {ss} {Ts} {nss} r l w =
+plan-few {b} h {ss} {Ts} {nss} r l w =
     let js : List Job = rowJobs ss Ts nss in
     omega (
       arith,
-      ap (λ cs. length (runsFrom 0 cs)) (skipped-slots b 0 (skipped-done js)),
-      few-runs b 0 (keep unfinished js) (r .names),
+      ap (λ cs. length (runsFrom h cs)) (skipped-slots (b - h) h (skipped-done js)),
+      few-runs (b - h) h (keep unfinished js) (r .names),
+      come-later h (keep unfinished js),
       sum-keep-le (toCome 0) unfinished js,
       rows-come ss Ts nss w,
     )
@@ -157,7 +158,7 @@ row-skipped zero zero s T need j = over
 row-skipped zero (suc m) s T need j = skip refl (row-skipped zero m s T need (suc j))
 row-skipped (suc n) m s T need j = same (row-skipped n m s T need (suc j))
 
-pub plan-skipped : (b : ℕ) (ss : List Name) (Ts : List ℕ) (nss : List (List ℕ)) {js : List Job} → Skipped (rowJobs ss Ts nss) js
-    → rowPlan b ss Ts nss ≡ runsFrom 0 (slotsFrom b 0 js)
+pub plan-skipped : (b h : ℕ) (ss : List Name) (Ts : List ℕ) (nss : List (List ℕ)) {js : List Job} → Skipped (rowJobs ss Ts nss) js
+    → rowPlan b h ss Ts nss ≡ runsFrom h (slotsFrom (b - h) h js)
 unfolding rowPlan
-plan-skipped b ss Ts nss w = ap (runsFrom 0) (skipped-slots b 0 w)
+plan-skipped b h ss Ts nss w = ap (runsFrom h) (skipped-slots (b - h) h w)

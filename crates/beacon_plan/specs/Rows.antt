@@ -3,7 +3,7 @@
 use mathlib.Core.Path.{_≡_}
 use mathlib.Core.Bool.{Bool}
 use mathlib.Core.List.{List, [], _∷_, _++_}
-use Prim.Native.Nat.{ℕ, suc, _*_, _≤_}
+use Prim.Native.Nat.{ℕ, suc, _*_, _-_, _≤_}
 use lib.Dec.{ltb}
 use lib.ListN.{length, drop, replicate}
 use Rattle.spec_lists.specs.Lists.{keep}
@@ -30,9 +30,9 @@ rowJobs (s ∷ ss) [] nss = []
 rowJobs (s ∷ ss) (T ∷ Ts) [] = []
 rowJobs (s ∷ ss) (T ∷ Ts) (ns ∷ nss) = rowFrom s T 0 ns ++ rowJobs ss Ts nss
 
--- the plan of an interval of b slots
-unfoldable pub rowPlan : (b : ℕ) → List Name → (lengths : List ℕ) (needs : List (List ℕ)) → List Run
-rowPlan b ss Ts nss = runsFrom 0 (slotsFrom b 0 (rowJobs ss Ts nss))
+-- the plan of an interval of b slots, of which the first h are its header's
+unfoldable pub rowPlan : (b h : ℕ) → List Name → (lengths : List ℕ) (needs : List (List ℕ)) → List Run
+rowPlan b h ss Ts nss = runsFrom h (slotsFrom (b - h) h (rowJobs ss Ts nss))
 
 -- jobs of T slots, at most sixteen of them in b slots
 pub record Length (b T : ℕ) : Type 0 where

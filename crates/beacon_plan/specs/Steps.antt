@@ -5,7 +5,6 @@ use mathlib.Core.Bool.{cond}
 use mathlib.Core.List.{List, [], _++_, map, append-assoc}
 use mathlib.Core.Option.{none, some}
 use Prim.Native.Nat.{ℕ, _+_, _*_, _-_, _≤_, _<_, min}
-use native.Mathlib.Nat.{sub-zero}
 use native.Mathlib.Omega.{arith}
 use lib.ListN.{length, getD, drop, length-set, length-append, length-drop}
 use borrow.Author.Tests.{lt-ltb, le-ltb}
@@ -64,13 +63,13 @@ pub record State (b t : ℕ) (ss : List Name) (Ts : List ℕ) (total : List Run)
   pub plan : done ++ pending p (toRun b t (rowJobs ss Ts nss)) ≡ total
   pub ended : endOf (p .run) ≤ t
 
-pub begin : {b : ℕ} {ss : List Name} {Ts : List ℕ} {nss : List (List ℕ)} (old : List ℕ) → Rows b ss Ts nss → Given b ss Ts → length nss ≡ places
-    → Wide nss → {p : Pen} → p ≡ blank → State b 0 ss Ts (rowPlan b ss Ts nss) old old nss p
+pub begin : {b h : ℕ} {ss : List Name} {Ts : List ℕ} {nss : List (List ℕ)} (old : List ℕ) → Rows b ss Ts nss → Given b ss Ts → h ≤ b
+    → length nss ≡ places → Wide nss → {p : Pen} → p ≡ blank → State b h ss Ts (rowPlan b h ss Ts nss) old old nss p
 unfolding rowPlan wordsOf
-begin {b} {ss} {Ts} {nss} old r g l w e =
+begin {b} {h} {ss} {Ts} {nss} old r g q l w e =
     rw e record {
       given = g;
-      time = omega arith;
+      time = q;
       rows = l;
       wide = w;
       left = keep unfinished (rowJobs ss Ts nss);
@@ -79,7 +78,7 @@ begin {b} {ss} {Ts} {nss} old r g l w e =
       done = [];
       count = refl;
       words = refl;
-      plan = pending-blank (toRun b 0 (rowJobs ss Ts nss)) ∙ rw (sub-zero b);
+      plan = pending-blank (toRun b h (rowJobs ss Ts nss));
       ended = omega arith;
     }
 

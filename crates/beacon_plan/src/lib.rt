@@ -7,7 +7,7 @@ ghost use mathlib.Core.List.{[], _++_, map};
 ghost use Prim.Native.Nat.{_+_, _*_, _-_, _≤_, _<_, min};
 ghost use lib.ListN.{length, drop, getD, set, replicate};
 ghost use Rattle.spec_lists.specs.All.{All};
-ghost use Rattle.spec_model.specs.Frames.{slotsIn};
+ghost use Rattle.spec_model.specs.Frames.{slotsIn, headerIn};
 ghost use Rattle.spec_model.specs.Tables.{places};
 ghost use Rattle.spec_rules.specs.Records.{recordWords, mostRecords, planWords, wordsOf};
 ghost use Rattle.law_model.specs.Frames.{mostSlots};
@@ -175,8 +175,8 @@ fn run_job(
 }
 
 // The records of the plan in the first words, and how many there are, where row i has counts[i] jobs that need each[i] slots. Every later
-// word stays as it was. Only the first rows have jobs, so that the work grows with them. What the jobs still need is made here, where it is
-// used up, so that no array of it is copied.
+// word stays as it was. The first slot that is given is the one after the header. Only the first rows have jobs, so that the work grows with
+// them. What the jobs still need is made here, where it is used up, so that no array of it is copied.
 pub fn write_plan(
     f: Frame,
     rows: usize,
@@ -186,11 +186,12 @@ pub fn write_plan(
     each: &[u32; 32],
     plan: &mut [u32],
 ) -> usize
-    requires { ⌜ Rows (slotsIn f) names (now lengths) (needRows (now counts) (now each)) × (planWords ≤ length (now plan)) ⌝ }
+    requires { ⌜ Rows (slotsIn f) names (now lengths) (needRows (now counts) (now each))
+        × ((planWords ≤ length (now plan)) × (headerIn f ≤ slotsIn f)) ⌝ }
     requires { ⌜ (rows ≤ places) × Spare (slotsIn f) rows (now lengths) (needRows (now counts) (now each)) ⌝ }
     requires { ⌜ (length (now lengths) ≡ places) × Counted (now counts) (now each) ⌝ }
     ensures { λ r. let needs = needRows (now (counts .entry)) (now (each .entry)) in
-        let runs = rowPlan (slotsIn f) names (now (lengths .entry)) needs in
+        let runs = rowPlan (slotsIn f) (headerIn f) names (now (lengths .entry)) needs in
         ⌜ (r ≡ length runs) × ((r ≤ mostRecords) × (now (plan .exit) ≡ wordsOf runs ++ drop (recordWords * r) (now (plan .entry)))) ⌝ }
 {
     let b = f.slots;
@@ -201,7 +202,7 @@ pub fn write_plan(
     let mut releases = [NO_RELEASE; spec_model::PLACES];
     fill_releases(&mut releases, rows, lengths, &heads);
     let mut pen = plan_record::blank_pen();
-    let mut t = Slots(0);
+    let mut t = f.header;
     let mut next = Slots(0);
     while t.0 < b.0 {
         next = next_after(b, rows, lengths, t, next);

@@ -3,7 +3,7 @@
 // since no array of a type of ours can be; each is wrapped as it is read.
 ghost use mathlib.Core.Path.{_≡_};
 ghost use Prim.Native.Nat.{_-_, _*_, _≤_, _<_};
-ghost use mathlib.Core.Bool.{cond};
+ghost use mathlib.Core.Bool.{false, cond};
 ghost use lib.Dec.{ltb};
 ghost use lib.ListN.{length, getD};
 ghost use Rattle.spec_lists.specs.All.{All};
@@ -11,7 +11,7 @@ ghost use Rattle.base_lists.specs.Spare.{Spare};
 ghost use Rattle.spec_model.specs.Tables.{places};
 ghost use Rattle.spec_rules.specs.Share.{extra};
 ghost use Rattle.table_queue.specs.Queues.{owedBelow, pieceOf, piecesOf, Queueing, Bounded};
-ghost use Rattle.beacon_share.specs.Shares.{roomsBy, weightBy, grantsBy, sharesBy, noShares};
+ghost use Rattle.beacon_share.specs.Shares.{roomsBy, weightBy, grantsBy, limitsAmong, sharesBy, noShares};
 use spec_model::Frame;
 use spec_model::Slots;
 use table_queue::Queue;
@@ -125,11 +125,12 @@ fn whole_weight(used: usize, limits: &[u32; 32], jobs: &[u32; 32], pieces: &[u32
     weight
 }
 
-// The figures by which an interval is shared: E, L and W.
+// The figures by which an interval is shared: E, L and W, and whether kind 1 takes part.
 pub struct Sharing {
     pub capacity: Slots,
     pub remains: Slots,
     pub weight: u64,
+    pub fractions: bool,
 }
 
 // What one place gets: its slots of step B, and its extra, which for kind 1 goes to each of its jobs.
@@ -178,25 +179,52 @@ pub fn no_shares() -> Shares
     }
 }
 
-// For a tidy table's queue these are its slots of steps B and C: Shares.shares-right. Step B gives all that is owed, or the whole
-// capacity: what remains is the capacity less all that is owed.
-pub fn shares_of(f: Frame, q: Queue) -> Shares
+// What a place may get of a sharing over pieces alone: kind 1, who has more than one job, takes no part.
+fn piece_limit(jobs: u32, limit: Slots) -> Slots
+    ensures { λ r. ⌜ r .0 ≡ cond (ltb jobs 2) (limit .0) 0 ⌝ }
+{
+    if jobs < 2 {
+        return limit;
+    }
+    Slots(0)
+}
+
+fn piece_limits(used: usize, jobs: &[u32; 32], limits: &[u32; 32]) -> [u32; 32]
+    requires { ⌜ (used ≤ places) × (Spare 0 used (now limits) × ((length (now jobs) ≡ places) × (length (now limits) ≡ places))) ⌝ }
+    ensures { λ r. ⌜ r ≡ limitsAmong false (now (jobs .entry)) (now (limits .entry)) ⌝ }
+{
+    let mut kept = [0u32; spec_model::PLACES];
+    for i in 0..used {
+        let limit = piece_limit(jobs[i], Slots(limits[i]));
+        kept[i] = limit.0;
+    }
+    kept
+}
+
+// For a tidy table's queue these are its slots of steps B and C, where kind 1 takes part or not: Shares.shares-right. Step B gives all that is
+// owed, or the whole capacity: what remains is the capacity less all that is owed.
+pub fn shares_of(f: Frame, q: Queue, fractions: bool) -> Shares
     requires { ⌜ Bounded q ⌝ }
-    ensures { λ r. ⌜ r ≡ sharesBy f q ⌝ }
+    ensures { λ r. ⌜ r ≡ sharesBy f fractions q ⌝ }
 {
     let used = q.used;
     let ranks = q.ranks;
     let owed = q.owed;
-    let limits = q.limits;
     let jobs = q.jobs;
+    let all = q.limits;
     let capacity = left_of(spec_model::room_in(f), q.load);
     let pieces = pieces(q, capacity);
+    let mut limits = all;
+    if !fractions {
+        limits = piece_limits(used, &jobs, &all);
+    }
     let remains = left_of(capacity, owed_below(&ranks, &owed, used, u64::MAX));
     let weight = whole_weight(used, &limits, &jobs, &pieces);
     let s = Sharing {
         capacity,
         remains,
         weight,
+        fractions,
     };
     let grants = grants_of(used, &limits, &pieces, s);
     Shares { grants }

@@ -15,6 +15,8 @@ pub const DONE: u32 = 0;
 // An opening.
 pub const UNITS_OUTSIDE: u32 = 1;
 
+pub const HEADER_OUTSIDE: u32 = 61;
+
 // A withdrawal and an enquiry.
 pub const NOT_HELD: u32 = 20;
 
@@ -37,6 +39,7 @@ pub fn open_number(answer: OpenAnswer) -> u32
     match answer {
         OpenAnswer::Opened => DONE,
         OpenAnswer::UnitsOutside => UNITS_OUTSIDE,
+        OpenAnswer::HeaderOutside => HEADER_OUTSIDE,
     }
 }
 

@@ -3,7 +3,7 @@ use mathlib.Core.Path.{_≡_, refl, sym, ap, ap₂, _∙_}
 use mathlib.Core.Logic.{_≢_}
 use mathlib.Core.Bool.{false}
 use mathlib.Core.List.{List, [], _∷_, map}
-use Prim.Native.Nat.{ℕ, zero, suc, _<_}
+use Prim.Native.Nat.{ℕ, zero, suc, _+_, _<_}
 use native.Mathlib.Omega.{arith}
 use lib.Dec.{ltb}
 use lib.ListN.{length}
@@ -13,13 +13,14 @@ use Rattle.spec_model.specs.Entries.{freeEntry, isHeld}
 use Rattle.spec_model.specs.declared.Entry.{Entry}
 use Rattle.spec_model.specs.declared.Table.{Table}
 use Rattle.spec_model.specs.Tables.{withEntries}
-use Rattle.spec_model.specs.Frames.{slotsIn}
+use Rattle.spec_model.specs.Frames.{headerIn, roomIn}
 use Rattle.spec_rules.specs.Share.{order}
 use Rattle.spec_rules.specs.Slots.{tieOrder, jobs, choose, slotsFrom, runsFrom, prepend, stepD, stepE}
 use Rattle.spec_rules.specs.Ahead.{stepF}
 use Rattle.spec_rules.specs.Calls.{planOf, advanced, beacon}
 use Rattle.spec_rules.specs.Records.{wordsOf, planWords}
 use Rattle.spec_rules.specs.WellFormed.{Tidy}
+use Rattle.law_slots.specs.Events.{runs-idle}
 use Rattle.law_steps.specs.Settled.{after-free}
 use Rattle.beacon_share.specs.declared.Shares.{Shares}
 use Rattle.table_queue.specs.Queues.{Used}
@@ -45,15 +46,17 @@ none-moved : (f : Entry → Entry) → f freeEntry ≡ freeEntry → {es : List 
 none-moved f z stop = refl
 none-moved f z (and p h) = ap₂ (λ e l. e ∷ l) (ap f p ∙ z ∙ sym p) (none-moved f z h)
 
-no-runs : (n s : ℕ) → runsFrom s (slotsFrom n s []) ≡ []
+no-runs : (n r s : ℕ) → runsFrom r (slotsFrom n s []) ≡ []
 unfolding runsFrom slotsFrom choose prepend
-no-runs zero s = refl
-no-runs (suc n) s = no-runs n (suc s)
+no-runs zero r s = refl
+no-runs (suc n) r s = no-runs n (suc r) (suc s)
 
 module _ (t : Table) (h : Used 0 t) where
   none-planned : planOf t ≡ []
   unfolding planOf stepE stepD jobs tieOrder order
-  none-planned = rw (none-kept (h .1)) (no-runs (slotsIn (t .frame)) 0)
+  none-planned =
+      let F = t .frame in
+      rw (none-kept (h .1)) (runs-idle (headerIn F) 0 (slotsFrom (roomIn F) (headerIn F) []) ∙ no-runs (roomIn F) (0 + headerIn F) (headerIn F))
 
   none-advanced : advanced t ≡ t
   unfolding advanced stepF

@@ -51,7 +51,11 @@ pub fn plan_interval(t: Table, plan: &mut [u32]) -> Planned
     if q.used == 0 {
         return unplanned(BeaconAnswer::Planned);
     }
-    let shares = beacon_share::shares_of(t.frame, q);
+    let frame = t.frame;
+    let mut shares = beacon_share::shares_of(frame, q, true);
+    if 0 < frame.header.0 {
+        shares = beacon_extras::shares_after(t, q, shares);
+    }
     let count = beacon_jobs::write_jobs(t, q, shares, plan);
     Planned {
         answer: BeaconAnswer::Planned,

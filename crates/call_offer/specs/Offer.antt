@@ -1,8 +1,8 @@
 -- An offer's answer as a program finds it: the checks one after the other, and looking ahead at the table with the request in its
 -- place. Assumes nothing.
 use mathlib.Core.Path.{_≡_, sym, ap, ap₂, _∙_}
-use mathlib.Core.Logic.{_≢_}
-use mathlib.Core.Bool.{Bool, true, false, cond, not}
+use mathlib.Core.Logic.{_⊎_, inl, inr, _≢_}
+use mathlib.Core.Bool.{Bool, true, false, cond, not, _&&_}
 use mathlib.Core.List.{List, [], _∷_, _++_}
 use Prim.Native.Nat.{ℕ, _+_, _≤_, _<_}
 use native.Mathlib.Decide.{ℕ-discrete}
@@ -12,25 +12,30 @@ use lib.ListN.{set}
 use borrow.Author.Tests.{eqb-true, eqb-false, eq-eqb, ne-eqb, leb-true, leb-false}
 use Rattle.spec_lists.specs.Lists.{sumOf}
 use Rattle.base_lists.specs.Sums.{sum-keep-le}
+use Rattle.base_lists.specs.Picked.{picked-sum}
 use Rattle.base_lists.specs.First.{firstOf}
 use Rattle.spec_model.specs.Requests.{Check, check, refusal, fieldChecks}
 use Rattle.spec_model.specs.Answers.{fieldsAnswer}
-use Rattle.spec_model.specs.Entries.{freeEntry, isHeld, entryOf}
+use Rattle.spec_model.specs.Entries.{freeEntry, isHeld, entryOf, asks}
 use Rattle.spec_model.specs.declared.Entry.{Entry}
 use Rattle.spec_model.specs.declared.Request.{Request}
 use Rattle.spec_model.specs.declared.Table.{Table}
 use Rattle.spec_model.specs.Names.{nameInRange}
 use Rattle.spec_model.specs.declared.Frame.{Frame}
-use Rattle.spec_model.specs.Frames.{roomIn}
+use Rattle.spec_model.specs.Frames.{headerIn, roomIn}
 use Rattle.spec_model.specs.Tables.{places, mostHeld, noPlace, heldOf, withEntries, putIn}
-use Rattle.spec_rules.specs.Share.{load}
+use Rattle.spec_rules.specs.Header.{headerTest}
+use Rattle.spec_rules.specs.Share.{loadOf, load}
 use Rattle.spec_rules.specs.Ahead.{fitsAhead}
 use Rattle.spec_rules.specs.Calls.{holds, offerAnswer, placed, offered}
 use Rattle.spec_rules.specs.WellFormed.{WellFormed, Tidy}
 use Rattle.law_steps.specs.Refusals.{refused-offer}
 use Rattle.law_steps.specs.Offers.{Numbered, refusal-none, none-refusal, refusal-stops, fields-numbered, offerChecksBut, checks-passed, isFull}
 use Rattle.law_steps.specs.Offers.{hasTime, offer-refused, offer-passed}
-use Rattle.law_ahead.specs.Formed.{passed-together, placed-tidy, placed-ahead}
+use Rattle.law_ahead.specs.KeepsUp.{keepsUpAhead}
+use Rattle.law_ahead.specs.Tables.{tidy-together, tidy-some}
+use Rattle.law_ahead.specs.Fits.{ahead-once, ahead-plain}
+use Rattle.law_ahead.specs.Formed.{passed-picked, placed-tidy, placed-ahead}
 use Rattle.law_ahead.specs.Even.{evenly, even-ahead}
 use Rattle.ahead_even.specs.Need.{evenNeed, needs-places}
 use Rattle.table_survey.specs.Free.{isFree, place-full, place-taken}
@@ -114,17 +119,38 @@ module _ (t : Table) (w : WellFormed t) (q : Request) {a : ℕ}
           let z : offerAnswer t q ≡ 0 = offer-passed t q none ∙ ap (λ (b : Bool). cond (not b) 17 0) (ahead e ∙ k) in
           (eqb-true a 0 h ∙ sym z, sym (ap (λ b. cond b (withRequest t q) t) (eq-eqb (offerAnswer t q) 0 z)))
 
-      -- where an even share is enough, with the request too, looking ahead says yes
+      -- where an even share is enough, with the request too, looking ahead, but for the header test, says yes
       pub fits-evenly : {b : Bool} {n : ℕ} {e : Entry} → n ≡ sumOf evenNeed (t .entries) → e ≡ entryOf q
-          → b ≡ leb (n + evenNeed e) (roomIn (t .frame)) → b ≡ true → true ≡ fitsAhead (t .frame) (heldOf (withRequest t q))
+          → b ≡ leb (n + evenNeed e) (roomIn (t .frame)) → b ≡ true → true ≡ keepsUpAhead (t .frame) (heldOf (withRequest t q))
       unfolding evenNeed load
       fits-evenly {b} {n} {e} p i h k =
           let room : n + evenNeed (entryOf q) ≤ roomIn (t .frame) =
           leb-true _ _ (sym (ap (λ x. leb (n + evenNeed x) (roomIn (t .frame))) i) ∙ sym h ∙ k) in
-          let es = heldOf t in
-          let enough : load (entryOf q ∷ es) + sumOf evenly (entryOf q ∷ es) ≤ roomIn (t .frame) =
-          omega (arith, p, needs-places t (w .tidy), sum-keep-le evenly isHeld (t .entries)) in
-          sym (placed-ahead t w q none ∙ even-ahead (t .frame) (entryOf q ∷ es) (passed-together t w q none) enough)
+          let fs = heldOf (withRequest t q) in
+          let enough : load fs + sumOf evenly fs ≤ roomIn (t .frame) =
+          omega (
+            arith,
+            p,
+            needs-places t (w .tidy),
+            sum-keep-le evenly isHeld (t .entries),
+            picked-sum loadOf (passed-picked t w q none),
+            picked-sum evenly (passed-picked t w q none),
+          ) in
+          sym (even-ahead (t .frame) fs (tidy-together request-tidy) enough)
+
+      -- where the header test fails looking ahead says no; where it passes, or there is no header, it says what the rest says
+      abbrev placedEntries : List Entry
+      placedEntries = heldOf (withRequest t q)
+
+      pub test-fails : headerTest (t .frame) asks placedEntries ≡ false → false ≡ fitsAhead (t .frame) placedEntries
+      test-fails z =
+          sym (ahead-once (t .frame) placedEntries (tidy-together request-tidy) ∙ ap (λ b. b && keepsUpAhead (t .frame) placedEntries) z)
+
+      pub rest-says : {b : Bool} → (headerIn (t .frame) ≡ 0) ⊎ (headerTest (t .frame) asks placedEntries ≡ true)
+          → b ≡ keepsUpAhead (t .frame) placedEntries → b ≡ fitsAhead (t .frame) placedEntries
+      rest-says (inl z) k = k ∙ sym (ahead-plain (t .frame) placedEntries z (tidy-some request-tidy) (tidy-together request-tidy))
+      rest-says (inr z) k =
+          k ∙ sym (ahead-once (t .frame) placedEntries (tidy-together request-tidy) ∙ ap (λ b. b && keepsUpAhead (t .frame) placedEntries) z)
 
       pub no-time : {b : Bool} → b ≡ fitsAhead (t .frame) (heldOf (withRequest t q)) → b ≡ false
           → (17 ≡ offerAnswer t q) × (putIn t noPlace freeEntry ≡ offered t q)

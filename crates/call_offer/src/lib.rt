@@ -40,7 +40,8 @@ fn refused(answer: OfferAnswer) -> Decision
     }
 }
 
-// The table is read and not changed: the caller puts the entry in its own. A copy with the entry is made only for looking ahead.
+// The table is read and not changed: the caller puts the entry in its own. A copy with the entry is made only for looking ahead. Without a
+// header the header test adds nothing to the rest of looking ahead, and is not made.
 pub fn decide(t: Table, q: Request) -> Decision
     requires { ⌜ WellFormed t ⌝ }
     ensures { λ r. ⌜ (offerNumber (r .answer) ≡ offerAnswer t q) × (putIn t (r .place) (r .entry) ≡ offered t q) ⌝ }
@@ -57,6 +58,11 @@ pub fn decide(t: Table, q: Request) -> Decision
     }
     let e = checks::entry_of(q);
     let at = s.free;
+    if 0 < frame.header.0 {
+        if !header_test::minimums_pass(t, s.used, at, e) {
+            return refused(OfferAnswer::NoTime);
+        }
+    }
     if table_survey::fits_with(s.needed, e, frame) {
         return Decision {
             answer,
@@ -64,7 +70,7 @@ pub fn decide(t: Table, q: Request) -> Decision
             entry: e,
         };
     }
-    if !ahead_loop::fits_ahead(t, s.used, at, e) {
+    if !ahead_loop::keeps_up_ahead(t, s.used, at, e) {
         return refused(OfferAnswer::NoTime);
     }
     Decision {

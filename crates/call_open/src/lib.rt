@@ -1,4 +1,4 @@
-// Openings: document 01, "Where each refusal is checked", `open`.
+// Openings: document 01, "Where each refusal is checked", `open`; document 02, No. 1.
 ghost use mathlib.Core.Bool.{cond};
 ghost use mathlib.Core.Path.{_≡_};
 ghost use lib.Dec.{eqb};
@@ -33,7 +33,10 @@ pub fn empty_table(frame: Frame) -> Table
 }
 
 // What stands where there is no table: an interval of 0 slots.
-const NO_FRAME: Frame = Frame { slots: Slots(0) };
+const NO_FRAME: Frame = Frame {
+    slots: Slots(0),
+    header: Slots(0),
+};
 
 pub fn no_table() -> Table
     ensures { λ r. ⌜ r ≡ noTable ⌝ }
@@ -44,10 +47,13 @@ pub fn no_table() -> Table
 pub fn open_answer(s: Setting) -> OpenAnswer
     ensures { λ r. ⌜ openNumber r ≡ openAnswer s ⌝ }
 {
-    if base_numbers::is_within(UNITS_LEAST, UNITS_LARGEST, s.units) {
-        return OpenAnswer::Opened;
+    if !base_numbers::is_within(UNITS_LEAST, UNITS_LARGEST, s.units) {
+        return OpenAnswer::UnitsOutside;
     }
-    OpenAnswer::UnitsOutside
+    if spec_model::UNIT_SLOTS * s.units <= s.header {
+        return OpenAnswer::HeaderOutside;
+    }
+    OpenAnswer::Opened
 }
 
 // What an interval is after an opening that succeeds.
@@ -57,7 +63,8 @@ fn frame_of(s: Setting) -> Frame
 {
     let count = spec_model::UNIT_SLOTS * s.units;
     let slots = Slots(count);
-    Frame { slots }
+    let header = Slots(s.header);
+    Frame { slots, header }
 }
 
 // The table of an opening that succeeds.

@@ -105,11 +105,11 @@ pub fn entry_row(e: Entry) {
     io::write_all(1, b"\n");
 }
 
-pub fn open(units: u32) -> Opening
-    ensures { λ r. let s = setting units in
+pub fn open(units: u32, header: u32) -> Opening
+    ensures { λ r. let s = setting units header in
         ⌜ (openNumber (r .answer) ≡ openAnswer s) × (r .table ≡ cond (eqb (openAnswer s) 0) (opened s) noTable) ⌝ }
 {
-    let s = Setting { units };
+    let s = Setting { units, header };
     let o = call_open::open(s);
     let answer = o.answer;
     plain_row(b"open", call_answers::open_number(answer));
@@ -117,12 +117,12 @@ pub fn open(units: u32) -> Opening
 }
 
 // An opening that succeeds.
-pub fn table_of(units: u32) -> Table
-    requires { ⌜ Succeeds (setting units) ⌝ }
-    ensures is { λ r. ⌜ r ≡ opened (setting units) ⌝ }
+pub fn table_of(units: u32, header: u32) -> Table
+    requires { ⌜ Succeeds (setting units header) ⌝ }
+    ensures is { λ r. ⌜ r ≡ opened (setting units header) ⌝ }
     ensures formed { λ r. ⌜ WellFormed r ⌝ }
 {
-    let o = open(units);
+    let o = open(units, header);
     o.table
 }
 

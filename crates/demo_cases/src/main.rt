@@ -13,13 +13,13 @@ const TWO_RECORDS: usize = spec_model::RECORD_WORDS * 2;
 fn one_unit() -> Table
     ensures { λ r. ⌜ WellFormed r ⌝ }
 {
-    demo_calls::table_of(1)
+    demo_calls::table_of(1, 0)
 }
 
 fn three_units() -> Table
     ensures { λ r. ⌜ WellFormed r ⌝ }
 {
-    demo_calls::table_of(3)
+    demo_calls::table_of(3, 0)
 }
 
 // What case 1 offers, and cases 4 and 10 go on from.

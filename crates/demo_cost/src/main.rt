@@ -24,10 +24,10 @@ fn with_streams(t: Table, first: u32, kind: u32, period: u32, min: u32, max: u32
 
 // 256 jobs of kind 1, and 16 pieces.
 fn full_table(units: u32) -> Table
-    requires { ⌜ Succeeds (setting units) ⌝ }
+    requires { ⌜ Succeeds (setting units 0) ⌝ }
     ensures { λ r. ⌜ WellFormed r ⌝ }
 {
-    let empty = demo_calls::table_of(units);
+    let empty = demo_calls::table_of(units, 0);
     let fractions = with_streams(empty, 1, 1, 16, 20, 40);
     with_streams(fractions, 17, 2, 2, 100, 400)
 }

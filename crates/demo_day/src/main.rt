@@ -188,12 +188,12 @@ fn sixth_lesson(t: Table, plan: &mut [u32]) -> Table
 fn opened() -> Table
     ensures { λ r. ⌜ WellFormed r ⌝ }
 {
-    demo_calls::table_of(100)
+    demo_calls::table_of(100, 0)
 }
 
 fn main() {
-    demo_calls::open(0);
-    demo_calls::open(1001);
+    demo_calls::open(0, 0);
+    demo_calls::open(1001, 0);
     let mut plan = [0u32; spec_model::PLAN_WORDS];
     let t = opened();
     let t = first_lesson(t, &mut plan);

@@ -14,6 +14,7 @@ use Rattle.spec_lists.specs.Lists.{sameList}
 use Rattle.base_lists.specs.Tests.{and-both, same-list}
 use Rattle.spec_model.specs.declared.Request.{Request}
 use Rattle.spec_model.specs.declared.Table.{Table}
+use Rattle.spec_model.specs.Frames.{roomIn}
 use Rattle.spec_rules.specs.Share.{order}
 use Rattle.spec_rules.specs.Slots.{Run, tieOrder, jobs, choose, slotsFrom, stepD, prepend, runsFrom, stepE}
 use Rattle.spec_rules.specs.Settings.{frameOf, opened}
@@ -93,7 +94,7 @@ abbrev pub asked : List ℕ → Request
 asked q = request (getD q 0 0) (getD q 1 0) (getD q 2 0) (getD q 3 0) (getD q 4 0) (getD q 5 0)
 
 abbrev pub oneUnit : Table
-oneUnit = opened (setting 1)
+oneUnit = opened (setting 1 0)
 
 abbrev oneHeld : List ℕ → Table
 oneHeld p = offered oneUnit (asked p)
@@ -157,5 +158,5 @@ module _ {s : State} {l : List ℕ} (p : Told s (record { ask = Tick; answer = 0
 
 -- a table that holds nothing has an empty plan
 pub nothing-planned : recordsIn (planOf oneUnit) ≡ []
-unfolding order tieOrder jobs choose slotsFrom stepD prepend runsFrom stepE frameOf opened planOf
+unfolding roomIn order tieOrder jobs choose slotsFrom stepD prepend runsFrom stepE frameOf opened planOf
 nothing-planned = refl

@@ -78,12 +78,12 @@ fn expect_each(words: &[u32], word: u32)
 }
 
 // ---- the calls, each with the answer that is expected
-fn open(units: u32) -> Table
-    requires { ⌜ Succeeds (setting units) ⌝ }
-    ensures is { λ r. ⌜ r ≡ opened (setting units) ⌝ }
+fn open(units: u32, header: u32) -> Table
+    requires { ⌜ Succeeds (setting units header) ⌝ }
+    ensures is { λ r. ⌜ r ≡ opened (setting units header) ⌝ }
     ensures formed { λ r. ⌜ WellFormed r ⌝ }
 {
-    let s = Setting { units };
+    let s = Setting { units, header };
     let o = call_open::open(s);
     let answer = o.answer;
     check::expect(call_answers::open_number(answer) == 0);
@@ -175,7 +175,7 @@ fn plan_of_two(
         ⌜ now (plan .exit) ≡ wordsOf (planOf (twoHeld first second))
         ++ drop (recordWords * length (now (records .entry))) (now (plan .entry)) ⌝ }
 {
-    let t = open(1);
+    let t = open(1, 0);
     let t = taken(t, first);
     let t = taken(t, second);
     beacon(t, plan, records)
@@ -219,7 +219,7 @@ fn offers_of_case_1() -> Table
     ensures is { λ r. ⌜ r ≡ table1 ⌝ }
     ensures formed { λ r. ⌜ WellFormed r ⌝ }
 {
-    let t = open(1);
+    let t = open(1, 0);
     let t = offer(t, 5, 1, 2, 100, 300, 4, 0);
     let t = offer(t, 7, 2, 2, 600, 1000, 4, 0);
     offer(t, 9, 3, 1, 300, 0, 1, 0)
@@ -287,20 +287,20 @@ fn case_5(plan: &mut [u32])
 }
 
 fn case_6() {
-    let t = open(1);
+    let t = open(1, 0);
     let t = offer(t, 1, 1, 2, 512, 512, 1, 0);
     offer(t, 2, 1, 2, 1, 1, 1, 17);
 }
 
 fn case_7() {
-    let t = open(1);
+    let t = open(1, 0);
     offer(t, 1, 1, 3, 1, 1, 1, 13);
-    let t = open(3);
+    let t = open(3, 0);
     offer(t, 1, 1, 3, 1, 1, 1, 0);
 }
 
 fn case_8() {
-    let t = open(1);
+    let t = open(1, 0);
     let t = offer(t, 1, 2, 2, 1, 1, 3, 15);
     offer(t, 1, 2, 2, 1, 1, 4, 0);
 }
@@ -340,7 +340,7 @@ fn case_10(plan: &mut [u32])
 fn case_10_empty(plan: &mut [u32])
     requires { ⌜ planWords ≤ length (now plan) ⌝ }
 {
-    let t = open(1);
+    let t = open(1, 0);
     beacon(t, plan, &[]);
 }
 

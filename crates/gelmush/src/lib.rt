@@ -99,11 +99,11 @@ pub extern "C" fn gelmush_withdraw(table: &mut Table, stream: u32) -> u32
 
 // Asks nothing of what lies in the table's place. Refused, it lies there still.
 #[no_mangle]
-pub extern "C" fn gelmush_open(table: &mut Table, units: u32) -> u32
-    ensures { λ r. let s = setting units in let a = openAnswer s in
+pub extern "C" fn gelmush_open(table: &mut Table, units: u32, header: u32) -> u32
+    ensures { λ r. let s = setting units header in let a = openAnswer s in
         ⌜ (r ≡ a) × (now (table .exit) ≡ cond (eqb a 0) (opened s) (now (table .entry))) ⌝ }
 {
-    let s = Setting { units };
+    let s = Setting { units, header };
     let answer = call_open::open_answer(s);
     let number = call_answers::open_number(answer);
     if number != call_answers::DONE {

@@ -23,11 +23,12 @@ use Rattle.spec_model.specs.declared.Frame.{Frame}
 use Rattle.spec_model.specs.Frames.{roomIn}
 use Rattle.spec_model.specs.Tables.{heldOf, withEntries}
 use Rattle.spec_rules.specs.Share.{overfull, stepB, sooner}
-use Rattle.spec_rules.specs.Ahead.{standing, settled, misses, fitsAhead}
+use Rattle.spec_rules.specs.Ahead.{standing, settled, misses}
 use Rattle.spec_rules.specs.WellFormed.{Tidy}
 use Rattle.law_model.specs.Names.{lower-nobody}
 use Rattle.law_steps.specs.StepB.{stepBOf}
 use Rattle.law_steps.specs.Closed.{takes, takes-owed, takes-held, at-places}
+use Rattle.law_ahead.specs.KeepsUp.{keepsUpAhead}
 use Rattle.law_ahead.specs.Loop.{lookedPast, past-tidy, ahead-misses, ahead-turn}
 use Rattle.law_ahead.specs.Served.{served, Lasts, before-places, takes-more, served-more}
 use Rattle.law_ahead.specs.Leap.{eventIn, Quiet, E, skipped, ended, on-by, skipped-held, skipped-length, skipped-load, skipped-capacity}
@@ -216,13 +217,13 @@ module _ (m : ℕ) (t : Table) (w : Tidy t) (q : Until (suc m) t) where
     there-full : overfull F (heldOf u) ≡ false
     there-full = ap (ltb (roomIn F)) (skipped-load m t) ∙ o
 
-    pub turn-misses : n * E t < dueIn n (t .entries) → fitsAhead F (heldOf t) ≡ false
+    pub turn-misses : n * E t < dueIn n (t .entries) → keepsUpAhead F (heldOf t) ≡ false
     turn-misses h =
         sym (leap-ahead m t w quiet l o) ∙ ahead-misses u there-tidy there-some
         (or-right (overfull F (heldOf u)) _ (late-there ∙ late-some h))
 
-    pub turn-same : dueIn n (t .entries) ≤ n * E t → fitsAhead F (heldOf (ended n t)) ≡ fitsAhead F (heldOf t)
+    pub turn-same : dueIn n (t .entries) ≤ n * E t → keepsUpAhead F (heldOf (ended n t)) ≡ keepsUpAhead F (heldOf t)
     turn-same h =
-        ap (λ x. fitsAhead F (heldOf x)) (sym past-there)
+        ap (λ x. keepsUpAhead F (heldOf x)) (sym past-there)
         ∙ ahead-turn u there-tidy there-some there-full (late-there ∙ late-none h)
         ∙ leap-ahead m t w quiet l o

@@ -1,5 +1,6 @@
 -- An even share is enough: where every interval has, beside what kind 1 takes now, slots for each piece to be served evenly, in its period
--- and in those that follow, the entries fit, and looking ahead says yes. The converse does not hold. Assumes nothing.
+-- and in those that follow, all are served in time, and looking ahead, but for the header test, says yes. The converse does not hold.
+-- Assumes nothing.
 use mathlib.Core.Path.{_≡_}
 use mathlib.Core.Logic.{⊎-elim}
 use mathlib.Core.Bool.{Bool, true, false, cond}
@@ -18,13 +19,12 @@ use Rattle.spec_model.specs.declared.Entry.{Entry}
 use Rattle.spec_model.specs.declared.Frame.{Frame}
 use Rattle.spec_model.specs.Frames.{roomIn}
 use Rattle.spec_rules.specs.Share.{load}
-use Rattle.spec_rules.specs.Ahead.{fitsAhead}
 use Rattle.spec_rules.specs.WellFormed.{Held}
 use Rattle.law_steps.specs.Held.{Piece, held-kinds, piece-of}
 use Rattle.law_steps.specs.Sources.{sourceOf, loadAt, load-falls, fraction-source, piece-source}
 use Rattle.law_ahead.specs.Moved.{Together}
-use Rattle.law_ahead.specs.Fits.{loadsAt, loads-now}
-use Rattle.law_ahead.specs.Exact.{fits-ahead}
+use Rattle.law_ahead.specs.Timely.{loadsAt, loads-now}
+use Rattle.law_ahead.specs.KeepsUp.{keepsUpAhead, timely-ahead}
 
 -- so many slots of each interval serve a piece in time: what it is owed by its deadline, and kind 2 its minimum in each later period
 unfoldable pub evenly : Entry → ℕ
@@ -87,9 +87,9 @@ module _ (F : Frame) (es : List Entry) (w : Together F es) (h : load es + sumOf 
         sum-le (λ e. loadAt e t) (λ e. loadAt e 0) (all-map (load-falls t) (w .held)),
       )
 
-  pub even-ahead : fitsAhead F es ≡ true
+  pub even-ahead : keepsUpAhead F es ≡ true
   even-ahead =
-      fits-ahead F es w
+      timely-ahead F es w
       (record {
         load = λ t. omega (arith, loads-fall t);
         room = fed-room sourceOf (λ e _. evenly e) _ (λ t. omega (arith, loads-fall t)) (all-map even-fed (w .held));

@@ -1,130 +1,175 @@
--- Where the entries fit: kind 1 leaves something of every interval to come, and in what it leaves there is room for the others. Step B is
--- a greedy step of the theory, so an interval keeps the fit and misses no deadline; and a fit after an interval without a miss shows
--- one before it. Assumes nothing.
-use mathlib.Core.Path.{_≡_, refl, ap, subst, fun-ext, _∙_}
-use mathlib.Core.Bool.{Bool, true, false, cond}
-use mathlib.Core.List.{List}
-use Prim.Native.Nat.{ℕ, zero, suc, _-_, _/_, _≤_, zero-le}
+-- Looking ahead says yes exactly where the entries fit: kind 1 passes the header test, and they can be served in time. Kind 1 entries only
+-- leave, so where the test passes in the first interval it passes in all: looking ahead is that one test, and looking ahead without it.
+-- Assumes nothing.
+use mathlib.Core.Path.{_≡_, refl, sym, ap, ap₂, _∙_}
+use mathlib.Core.Logic.{_⊎_, inl, inr}
+use mathlib.Core.Bool.{Bool, true, false, cond, not, _&&_, _||_}
+use mathlib.Core.List.{List, [], _∷_, map}
+use Prim.Native.Nat.{ℕ, zero, suc, _*_, _≤_, _<_, zero-le}
+use native.Mathlib.Nat.{le-refl}
+use native.Mathlib.Decide.{ℕ-discrete}
 use native.Mathlib.Omega.{arith}
-use Rattle.spec_lists.specs.Lists.{sumOf, span}
-use Rattle.base_lists.specs.All.{all-map}
-use Rattle.base_lists.specs.Sums.{sum-ext, sum-same}
-use Rattle.base_edf.specs.Time.{due}
-use Rattle.base_edf.specs.Edf.{Source, source, rem, left, gone, next, dem, Room, Greedy, NoMiss, no-miss, room-next, greedy-total}
-use Rattle.base_edf.specs.Converse.{room-back}
-use Rattle.spec_model.specs.Entries.{isPiece, asks}
-use Rattle.spec_model.specs.declared.Entry.{Entry}
+use borrow.Author.Tests.{eq-eqb, ne-eqb}
+use Rattle.spec_lists.specs.Lists.{mostOf, anyOf}
+use Rattle.spec_lists.specs.All.{All, stop}
+use Rattle.base_lists.specs.Tests.{clash, and-both, both-and, and-false}
+use Rattle.base_lists.specs.All.{head, all-map, all-zip, all-of, all-of-map}
+use Rattle.base_lists.specs.Sums.{sum-same, sum-le, sum-map, sum-keep-le}
+use Rattle.spec_model.specs.Frames.{slotsIn, headerIn, partOf}
+use Rattle.spec_model.specs.Entries.{freeEntry, isHeld, isKind, asks}
+use Rattle.spec_model.specs.Answers.{requestOf}
 use Rattle.spec_model.specs.declared.Frame.{Frame}
-use Rattle.spec_model.specs.Frames.{roomIn}
-use Rattle.spec_rules.specs.Share.{Grant, loadOf, load, slotsFor, capacity, stepB}
-use Rattle.law_steps.specs.Sources.{sourceOf, loadAt, free-source, source-next, held-sound, load-free, load-now, load-next}
-use Rattle.law_steps.specs.StepB.{stepBOf, stepB-within, stepB-due}
-use Rattle.law_ahead.specs.Moved.{Together, stepOf, moved, MayGive, moved-sum}
+use Rattle.spec_model.specs.declared.Entry.{Entry}
+use Rattle.spec_model.specs.declared.Request.{Request}
+use Rattle.spec_rules.specs.Header.{dueOf, dueBy, headerTest}
+use Rattle.spec_rules.specs.Share.{Grant, loadOf, load, slotsFor, overfull, stepB}
+use Rattle.spec_rules.specs.Ahead.{stepF, misses, goesWell, fitsAhead}
+use Rattle.law_model.specs.Frames.{room-most}
+use Rattle.law_model.specs.Loads.{load-of-fraction, load-of-none}
+use Rattle.law_steps.specs.Header.{RoomBy, held-whole, no-header, test-says, says-test, test-fewer}
+use Rattle.law_steps.specs.Settled.{after, after-request}
+use Rattle.law_ahead.specs.Moved.{Together, lifeOf, stepOf, moved, MayGive}
+use Rattle.law_ahead.specs.Timely.{Timely, loads-now, timely-on}
+use Rattle.law_ahead.specs.KeepsUp.{keepsUp, keepsUpAhead, ahead-timely, timely-ahead}
 
--- what kind 1 takes of the interval t intervals on, and what it leaves
-abbrev pub loadsAt : List Entry → ℕ → ℕ
-loadsAt es t = sumOf (λ (e : Entry). loadAt e t) es
+-- ---- the test after an interval
+-- y is no kind 1 entry, or has m and the minimum of e, which is one too
+abbrev SameFraction : Entry → Entry → Type 0
+SameFraction e y = y .kind ≡ 1 → (e .kind ≡ 1) × (y .parts ≡ e .parts) × (asks y ≡ asks e)
 
-abbrev pub spareAt : Frame → List Entry → ℕ → ℕ
-spareAt F es t = roomIn F - loadsAt es t
-
-pub record Fits (F : Frame) (es : List Entry) : Type 0 where
-  pub load : (t : ℕ) → loadsAt es t ≤ roomIn F
-  pub room : Room sourceOf es (spareAt F es)
-
--- what step B gives an entry; nothing to kind 1
-abbrev pub pieceOf : Frame → List Entry → Entry → ℕ
-pieceOf F es e = cond (isPiece e) (stepBOf F es e) 0
-
--- the load that step A counts
-pub loads-now : (F : Frame) (es : List Entry) → Together F es → load es ≡ loadsAt es 0
-unfolding load
-loads-now F es w =
-    sum-ext loadOf (λ e. loadAt e 0) (all-map (λ e h. load-now h) (w .held))
-
--- ---- step B is a greedy step
-stepB-greedy : (F : Frame) (es : List Entry) → Together F es → Greedy sourceOf es (pieceOf F es) (capacity F es)
-unfolding sourceOf
-stepB-greedy F es w =
-    record {
-      within = all-map (λ e h. below e (isPiece e) h) (stepB-within F es (w .once));
-      first = λ d. omega (
-        arith,
-        stepB-due F es (w .once) d,
-        sum-same (λ e. due (left (sourceOf e)) d (pieceOf F es e)) (λ e. cond (isPiece e) (due (e .left .0) d (stepBOf F es e)) 0) es
-            (λ e. given e (isPiece e) d (stepBOf F es e)),
-        sum-same (λ e. due (left (sourceOf e)) d (rem (sourceOf e)))
-            (λ (e : Entry). cond (isPiece e) (due (e .left .0) d (e .owed .0)) 0) es (λ e. owed e (isPiece e) d),
-      );
-    }
+-- the test passes for what becomes of the entries
+test-map : (F : Frame) (f : Entry → Entry) (es : List Entry) → All (λ e. SameFraction e (f e)) es → headerTest F asks es ≡ true
+    → headerTest F asks (map f es) ≡ true
+unfolding dueBy
+test-map F f es same q = says-test F asks (map f es) (all-of-map f (all-zip each same (test-says F asks es q)))
   where
-    at : Entry → Bool → Source
-    at e b = cond b (source (e .owed .0) (e .left .0) (asks e) (e .period .0) ((e .«life_left» .0 - e .left .0) / e .period .0)) gone
+    less : (t : ℕ) (e : Entry) → SameFraction e (f e) → dueOf F asks t (f e) ≤ dueOf F asks t e
+    less t e s =
+        elim (ℕ-discrete (f e .kind) 1) [
+          | yes k ↦
+              let p = s k in
+              rw (eq-eqb (f e .kind) 1 k, eq-eqb (e .kind) 1 (p .0), p .1, p .2) (le-refl _)
+          | no k ↦ rw (ne-eqb (f e .kind) 1 k) zero-le
+        ]
 
-    below : (e : Entry) (b : Bool) → (b ≡ true → stepBOf F es e ≤ e .owed .0) → cond b (stepBOf F es e) 0 ≤ rem (at e b)
-    below e true h = h refl
-    below e false h = zero-le
-
-    given : (e : Entry) (b : Bool) (d v : ℕ) → due (left (at e b)) d (cond b v 0) ≡ cond b (due (e .left .0) d v) 0
-    given e true d v = refl
-    given e false d v = refl
-
-    owed : (e : Entry) (b : Bool) (d : ℕ) → due (left (at e b)) d (rem (at e b)) ≡ cond b (due (e .left .0) d (e .owed .0)) 0
-    owed e true d = refl
-    owed e false d = refl
-
--- ---- an interval
-module _ (F : Frame) (cs : List Grant) (es : List Entry) (w : Together F es) (x : MayGive (stepB F es) cs es) where
-  moved-loads : (t : ℕ) → loadsAt (moved (stepB F es) cs es) t ≡ loadsAt es (suc t)
-  moved-loads t =
-      moved-sum F (stepB F es) cs es w x (λ e. loadAt e t) (load-free t)
-      ∙ sum-same (λ e. loadAt (stepOf (stepB F es) cs e) t) (λ e. loadAt e (suc t)) es
-      (λ e. load-next (stepBOf F es e) (slotsFor (e .name) cs) e t)
-
-  moved-spare : spareAt F (moved (stepB F es) cs es) ≡ (λ u. spareAt F es (suc u))
-  moved-spare = fun-ext (λ t. ap (λ v. roomIn F - v) (moved-loads t))
-
-  -- what the entries ask after the interval is what their sources ask after a step
-  moved-dems : (s d : ℕ)
-      → sumOf (λ e. dem (sourceOf e) s d) (moved (stepB F es) cs es) ≡ sumOf (λ e. dem (next (sourceOf e) (pieceOf F es e)) s d) es
-  moved-dems s d =
-      moved-sum F (stepB F es) cs es w x (λ e. dem (sourceOf e) s d) (ap (λ a. dem a s d) free-source ∙ none s)
-      ∙ sum-ext (λ e. dem (sourceOf (stepOf (stepB F es) cs e)) s d) (λ e. dem (next (sourceOf e) (pieceOf F es e)) s d)
-      (all-map (λ e h. ap (λ a. dem a s d) (source-next F (stepBOf F es e) (slotsFor (e .name) cs) e h)) (w .held))
-    where
-      none : (s : ℕ) → dem gone s d ≡ 0
-      none zero = refl
-      none (suc s) = refl
-
-  greedy-now : Greedy sourceOf es (pieceOf F es) (spareAt F es 0)
-  greedy-now = subst (Greedy sourceOf es (pieceOf F es)) (ap (λ v. roomIn F - v) (loads-now F es w)) (stepB-greedy F es w)
-
-  -- no deadline is missed
-  pub fits-meets : Fits F es → NoMiss sourceOf es (pieceOf F es)
-  fits-meets f = no-miss sourceOf (spareAt F es) greedy-now (f .room)
-
-  pub fits-on : Fits F es → Fits F (moved (stepB F es) cs es)
-  fits-on f =
-      record {
-        load = λ t. omega (arith, f .load (suc t), moved-loads t);
-        room = λ s d. omega (
+    each : (e : Entry) → SameFraction e (f e) → (e .kind ≡ 1 → (j : ℕ) → j < e .parts → RoomBy F asks es (suc j * partOf F (e .parts)))
+        → f e .kind ≡ 1 → (j : ℕ) → j < f e .parts → RoomBy F asks (map f es) (suc j * partOf F (f e .parts))
+    each e s r k j l =
+        let p = s k in
+        let t : ℕ = suc j * partOf F (e .parts) in
+        rw (p .1)
+        (omega (
           arith,
-          moved-dems s d,
-          room-next sourceOf (spareAt F es) greedy-now (f .room) s d,
-          ap (λ c. span c s d) moved-spare,
-        );
-      }
+          r (p .0) j (omega (arith, p .1)),
+          sum-map (dueOf F asks t) f es,
+          sum-le (λ e. dueOf F asks t (f e)) (dueOf F asks t) (all-map (less t) same),
+        ))
 
-  -- and back, where kind 1 fits the interval and no deadline is missed in it
-  pub fits-back : load es ≤ roomIn F → NoMiss sourceOf es (pieceOf F es) → Fits F (moved (stepB F es) cs es) → Fits F es
-  fits-back l m f =
-      record {
-        load = each;
-        room = room-back sourceOf (spareAt F es) (all-map (λ e h. held-sound h) (w .held))
-            (omega (arith, greedy-total sourceOf greedy-now)) m
-            (λ s d. omega (arith, moved-dems s d, f .room s d, ap (λ c. span c s d) moved-spare));
-      }
-    where
-      each : (t : ℕ) → loadsAt es t ≤ roomIn F
-      each zero = omega (arith, loads-now F es w)
-      each (suc t) = omega (arith, f .load t, moved-loads t)
+-- the request, and so m and the minimum, stay as long as the entry
+same-after : (b c : ℕ) (e : Entry) → SameFraction e (after b c e)
+unfolding requestOf
+same-after b c e k = go (after-request b c e)
+  where
+    y : Entry
+    y = after b c e
+
+    go : (y ≡ freeEntry) ⊎ (requestOf y ≡ requestOf e) → (e .kind ≡ 1) × (y .parts ≡ e .parts) × (asks y ≡ asks e)
+    go (inl q) = absurd (omega (arith, ap (λ (x : Entry). x .kind) q))
+    go (inr q) =
+        let z : e .kind ≡ 1 = sym (ap (λ (r : Request). r .kind) q) ∙ k in (
+          z,
+          sym (ap (λ c. cond c (y .parts) (y .period .0)) (eq-eqb (y .kind) 1 k))
+              ∙ ap (λ (r : Request). r .period) q
+              ∙ ap (λ c. cond c (e .parts) (e .period .0)) (eq-eqb (e .kind) 1 z),
+          ap (λ (r : Request). r .min) q,
+        )
+
+-- so it passes in the next interval, whatever was given
+pub test-moved : (F : Frame) (bs cs : List Grant) (es : List Entry) → headerTest F asks es ≡ true → headerTest F asks (moved bs cs es) ≡ true
+unfolding stepF
+test-moved F bs cs es q =
+    test-fewer F asks (map (stepOf bs cs) es) (moved bs cs es) (λ f. sum-keep-le f isHeld (map (stepOf bs cs) es))
+    (test-map F (stepOf bs cs) es (all-of es (λ e. same-after (slotsFor (e .name) bs) (slotsFor (e .name) cs) e)) q)
+
+-- ---- all intervals
+well-test : (n : ℕ) (F : Frame) (es : List Entry) → headerTest F asks es ≡ true → goesWell n F es ≡ keepsUp n F es
+unfolding goesWell keepsUp
+well-test zero F es q = refl
+well-test (suc n) F es q =
+    ap₂ (λ (a r : Bool). cond (overfull F es || (not a || anyOf (misses (stepB F es)) es)) false r) q
+    (well-test n F (moved (stepB F es) [] es) (test-moved F (stepB F es) [] es q))
+
+fails-test : (n : ℕ) (F : Frame) (es : List Entry) → headerTest F asks es ≡ false → goesWell (suc n) F es ≡ false
+unfolding goesWell
+fails-test n F es q =
+    ap (λ (a : Bool). cond (overfull F es || (not a || anyOf (misses (stepB F es)) es)) false (goesWell n F (moved (stepB F es) [] es))) q
+    ∙ go (overfull F es)
+  where
+    go : (a : Bool) → cond (a || true) false (goesWell n F (moved (stepB F es) [] es)) ≡ false
+    go true = refl
+    go false = refl
+
+-- If the test fails, some entry is alive, so at least one interval is looked at.
+pub ahead-once : (F : Frame) (es : List Entry) → Together F es → fitsAhead F es ≡ (headerTest F asks es && keepsUpAhead F es)
+unfolding fitsAhead keepsUpAhead
+ahead-once F es w = go (headerTest F asks es) refl
+  where
+    go : (b : Bool) → headerTest F asks es ≡ b → goesWell (mostOf lifeOf es) F es ≡ (b && keepsUp (mostOf lifeOf es) F es)
+    go true q = well-test (mostOf lifeOf es) F es q
+    go false q = one (mostOf lifeOf es) (some es w q)
+      where
+        one : (n : ℕ) → 1 ≤ n → goesWell n F es ≡ false
+        one zero l = absurd (omega arith)
+        one (suc n) l = fails-test n F es q
+
+        some : (es : List Entry) → Together F es → headerTest F asks es ≡ false → 1 ≤ mostOf lifeOf es
+        some [] w q = absurd (clash (headerTest F asks []) (says-test F asks [] stop) q)
+        some (e ∷ es) w q = omega (arith, head (w .held) .alive)
+
+-- Without a header the test adds nothing: where all are served in time, kind 1 fits the interval.
+pub ahead-plain : (F : Frame) (es : List Entry) → headerIn F ≡ 0 → 1 ≤ slotsIn F → Together F es → fitsAhead F es ≡ keepsUpAhead F es
+unfolding load
+ahead-plain F es z b w = ahead-once F es w ∙ go (keepsUpAhead F es) refl
+  where
+    passes : keepsUpAhead F es ≡ true → headerTest F asks es ≡ true
+    passes q =
+        no-header F asks es z b (held-whole (w .held))
+        (omega (
+          arith,
+          ahead-timely F es w q .load 0,
+          loads-now F es w,
+          room-most F,
+          sum-same (λ e. cond (isKind 1 e) (e .parts * asks e) 0) loadOf es (λ e. one e (isKind 1 e) refl),
+        ))
+      where
+        one : (e : Entry) (k : Bool) → isKind 1 e ≡ k → cond k (e .parts * asks e) 0 ≡ loadOf e
+        one e true k = sym (load-of-fraction e k)
+        one e false k = sym (load-of-none e k)
+
+    go : (c : Bool) → keepsUpAhead F es ≡ c → (headerTest F asks es && c) ≡ c
+    go true q = ap (λ c. c && true) (passes q)
+    go false q = and-false (headerTest F asks es)
+
+-- ---- the entries fit
+pub record Fits (F : Frame) (es : List Entry) : Type 0 where
+  pub test : headerTest F asks es ≡ true
+  pub timely : Timely F es
+
+pub fits-on : (F : Frame) (cs : List Grant) (es : List Entry) → Together F es → MayGive (stepB F es) cs es
+    → Fits F es → Fits F (moved (stepB F es) cs es)
+fits-on F cs es w x f =
+    record { test = test-moved F (stepB F es) cs es (f .test); timely = timely-on F cs es w x (f .timely) }
+
+pub ahead-fits : (F : Frame) (es : List Entry) → Together F es → fitsAhead F es ≡ true → Fits F es
+ahead-fits F es w h =
+    let p = and-both (headerTest F asks es) (keepsUpAhead F es) (sym (ahead-once F es w) ∙ h) in
+    record { test = p .0; timely = ahead-timely F es w (p .1) }
+
+pub fits-ahead : (F : Frame) (es : List Entry) → Together F es → Fits F es → fitsAhead F es ≡ true
+fits-ahead F es w f =
+    ahead-once F es w ∙ both-and (headerTest F asks es) (keepsUpAhead F es) (f .test) (timely-ahead F es w (f .timely))
+
+-- nothing is held
+pub ahead-none : (F : Frame) → fitsAhead F [] ≡ true
+unfolding fitsAhead goesWell
+ahead-none F = refl

@@ -35,11 +35,9 @@ use Rattle.law_steps.specs.Grants.{once-cons}
 use Rattle.law_steps.specs.Held.{held-is, entry-held}
 use Rattle.law_steps.specs.Offers.{offerChecksBut, Passed, checks-passed, isFull, hasTime, answer-fits, answer-passed}
 use Rattle.law_ahead.specs.Moved.{Together, moved, own-extras}
-use Rattle.law_ahead.specs.Fits.{Fits, fits-on}
-use Rattle.law_ahead.specs.Exact.{ahead-fits}
+use Rattle.law_ahead.specs.Fits.{Fits, fits-on, ahead-fits, ahead-none}
 use Rattle.law_ahead.specs.Tables.{formed-together, formed-fits, tidy-formed, picked-together, picked-fits, picked-ahead, fewer-fits}
 use Rattle.law_ahead.specs.Tables.{placed-all, placed-length, placed-picked, stepped-held, stepped-tidy}
-use Rattle.law_ahead.specs.Loop.{ahead-none}
 
 -- ---- opening
 pub opened-formed : (s : Setting) → Succeeds s → WellFormed (opened s)

@@ -22,7 +22,7 @@ use Rattle.spec_model.specs.declared.Frame.{Frame}
 use Rattle.spec_model.specs.Frames.{roomIn}
 use Rattle.spec_model.specs.Tables.{heldOf, withEntries}
 use Rattle.spec_rules.specs.Share.{slotsFor, load, overfull, capacity, stepB, loadOf}
-use Rattle.spec_rules.specs.Ahead.{passed, renewed, settled, stepF, misses, fitsAhead}
+use Rattle.spec_rules.specs.Ahead.{passed, renewed, settled, stepF, misses}
 use Rattle.spec_rules.specs.WellFormed.{Held, Tidy}
 use Rattle.law_model.specs.Loads.{load-of-standing}
 use Rattle.law_steps.specs.Grants.{slots-none}
@@ -31,6 +31,7 @@ use Rattle.law_steps.specs.Settled.{after, after-free}
 use Rattle.law_steps.specs.StepB.{stepBOf}
 use Rattle.law_steps.specs.Places.{tidy-held}
 use Rattle.law_steps.specs.Closed.{takes, takes-owed, takes-most, takes-held, at-places}
+use Rattle.law_ahead.specs.KeepsUp.{keepsUpAhead}
 use Rattle.law_ahead.specs.Loop.{lookedPast, past-tidy, ahead-turn}
 use Rattle.law_ahead.specs.Served.{later, served, Lasts, standing-same, served-more}
 
@@ -215,12 +216,12 @@ module _ (n : ℕ) (t : Table) (w : Tidy t) (q : Quiet n t) where
   leap-tidy = leap-keeps Tidy (λ u v r p. past-tidy u v) n t w q w
 
   pub leap-ahead : 1 ≤ length (heldOf t) → overfull (t .frame) (heldOf t) ≡ false
-      → fitsAhead (t .frame) (heldOf (skipped n t)) ≡ fitsAhead (t .frame) (heldOf t)
+      → keepsUpAhead (t .frame) (heldOf (skipped n t)) ≡ keepsUpAhead (t .frame) (heldOf t)
   leap-ahead l o = leap-keeps P step n t w q (l, o, refl) .2
     where
       P : Table → Type 0
       P u = (1 ≤ length (heldOf u)) × (overfull (u .frame) (heldOf u) ≡ false)
-          × (fitsAhead (u .frame) (heldOf u) ≡ fitsAhead (t .frame) (heldOf t))
+          × (keepsUpAhead (u .frame) (heldOf u) ≡ keepsUpAhead (t .frame) (heldOf t))
 
       step : (u : Table) → Tidy u → Quiet 1 u → P u → P (lookedPast u)
       step u v r p = (

@@ -1,6 +1,7 @@
 pub mod Moved
+pub mod Timely
+pub mod KeepsUp
 pub mod Fits
-pub mod Exact
 pub mod Tables
 pub mod Loop
 pub mod Served

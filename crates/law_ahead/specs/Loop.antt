@@ -15,10 +15,11 @@ use Rattle.spec_model.specs.declared.Table.{Table}
 use Rattle.spec_model.specs.declared.Frame.{Frame}
 use Rattle.spec_model.specs.Tables.{heldOf}
 use Rattle.spec_rules.specs.Share.{overfull, stepB}
-use Rattle.spec_rules.specs.Ahead.{misses, goesWell, fitsAhead}
+use Rattle.spec_rules.specs.Ahead.{misses}
 use Rattle.spec_rules.specs.WellFormed.{Held, Tidy}
 use Rattle.law_steps.specs.Places.{tidy-held}
 use Rattle.law_ahead.specs.Moved.{moved, lifeOf, no-extras, moved-most}
+use Rattle.law_ahead.specs.KeepsUp.{keepsUp, keepsUpAhead}
 use Rattle.law_ahead.specs.Tables.{tidy-together, stepped, stepped-held, stepped-tidy}
 
 -- the table one interval on, as looking ahead has it: without extras
@@ -32,11 +33,11 @@ pub past-tidy : (t : Table) → Tidy t → Tidy (lookedPast t)
 past-tidy t w = stepped-tidy (stepB (t .frame) (heldOf t)) [] t w (no-extras (t .frame) (heldOf t) (w .once))
 
 -- ---- nothing is held
-pub ahead-none : (F : Frame) → fitsAhead F [] ≡ true
-unfolding fitsAhead goesWell
+ahead-none : (F : Frame) → keepsUpAhead F [] ≡ true
+unfolding keepsUpAhead keepsUp
 ahead-none F = refl
 
-pub ahead-over : (F : Frame) (es : List Entry) → length es ≡ 0 → fitsAhead F es ≡ true
+pub ahead-over : (F : Frame) (es : List Entry) → length es ≡ 0 → keepsUpAhead F es ≡ true
 ahead-over F [] z = ahead-none F
 ahead-over F (e ∷ es) z = absurd (omega arith)
 
@@ -60,17 +61,17 @@ module _ (t : Table) (w : Tidy t) (l : 1 ≤ length (heldOf t)) where
   past-most = ap (mostOf lifeOf) (past-held t w) ∙ moved-most F (stepB F es) [] es (tidy-together w) (no-extras F es (w .once))
 
   -- the test of this interval, and looking ahead from the next
-  pub ahead-step : fitsAhead F es ≡ cond (overfull F es || anyOf (misses (stepB F es)) es) false (fitsAhead F past)
-  unfolding fitsAhead goesWell
+  pub ahead-step : keepsUpAhead F es ≡ cond (overfull F es || anyOf (misses (stepB F es)) es) false (keepsUpAhead F past)
+  unfolding keepsUpAhead keepsUp
   ahead-step = go (mostOf lifeOf es) (mostOf lifeOf past) (omega (arith, past-most, held-lives es (tidy-held w) l))
     where
-      go : (n m : ℕ) → n ≡ suc m → goesWell n F es ≡ cond (overfull F es || anyOf (misses (stepB F es)) es) false (goesWell m F past)
+      go : (n m : ℕ) → n ≡ suc m → keepsUp n F es ≡ cond (overfull F es || anyOf (misses (stepB F es)) es) false (keepsUp m F past)
       go n m q =
-          ap (λ k. goesWell k F es) q
-          ∙ ap (λ fs. cond (overfull F es || anyOf (misses (stepB F es)) es) false (goesWell m F fs)) (sym (past-held t w))
+          ap (λ k. keepsUp k F es) q
+          ∙ ap (λ fs. cond (overfull F es || anyOf (misses (stepB F es)) es) false (keepsUp m F fs)) (sym (past-held t w))
 
-  pub ahead-misses : (overfull F es || anyOf (misses (stepB F es)) es) ≡ true → fitsAhead F es ≡ false
-  ahead-misses h = ahead-step ∙ ap (λ b. cond b false (fitsAhead F past)) h
+  pub ahead-misses : (overfull F es || anyOf (misses (stepB F es)) es) ≡ true → keepsUpAhead F es ≡ false
+  ahead-misses h = ahead-step ∙ ap (λ b. cond b false (keepsUpAhead F past)) h
 
-  pub ahead-turn : overfull F es ≡ false → anyOf (misses (stepB F es)) es ≡ false → fitsAhead F past ≡ fitsAhead F es
-  ahead-turn h k = sym (ahead-step ∙ ap₂ (λ a b. cond (a || b) false (fitsAhead F past)) h k)
+  pub ahead-turn : overfull F es ≡ false → anyOf (misses (stepB F es)) es ≡ false → keepsUpAhead F past ≡ keepsUpAhead F es
+  ahead-turn h k = sym (ahead-step ∙ ap₂ (λ a b. cond (a || b) false (keepsUpAhead F past)) h k)

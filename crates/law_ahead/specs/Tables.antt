@@ -16,24 +16,25 @@ use Rattle.base_lists.specs.All.{head, tail, all-zip, all-of-map, all-kept}
 use Rattle.base_lists.specs.Picked.{Picked, here, there, picked-all, picked-sum}
 use Rattle.base_edf.specs.Time.{span-le}
 use Rattle.base_edf.specs.Edf.{dem}
-use Rattle.spec_model.specs.Entries.{freeEntry, isHeld, isNamed}
+use Rattle.spec_model.specs.Entries.{freeEntry, isHeld, isNamed, asks}
 use Rattle.spec_model.specs.declared.Entry.{Entry}
 use Rattle.spec_model.specs.declared.Table.{Table}
 use Rattle.spec_model.specs.declared.Frame.{Frame}
-use Rattle.spec_model.specs.Frames.{slotsIn}
+use Rattle.spec_model.specs.Frames.{slotsIn, headerIn}
 use Rattle.spec_model.specs.Tables.{heldOf, withEntries}
 use Rattle.spec_rules.specs.Share.{Grant, slotsFor, load}
 use Rattle.spec_rules.specs.Ahead.{stepF, fitsAhead}
 use Rattle.spec_rules.specs.Calls.{placed}
 use Rattle.spec_rules.specs.WellFormed.{Held, WellFormed, Tidy}
-use Rattle.law_model.specs.Frames.{frame-some}
+use Rattle.law_model.specs.Frames.{frame-some, header-less}
 use Rattle.law_steps.specs.Held.{held-is}
+use Rattle.law_steps.specs.Header.{test-fewer}
 use Rattle.law_steps.specs.Settled.{Granted, settled-held, after-free}
 use Rattle.law_steps.specs.Sources.{sourceOf, loadAt}
 use Rattle.law_steps.specs.Places.{tidy-held}
 use Rattle.law_ahead.specs.Moved.{Together, stepOf, moved, MayGive, moved-together}
-use Rattle.law_ahead.specs.Fits.{Fits, spareAt}
-use Rattle.law_ahead.specs.Exact.{ahead-fits, fits-ahead}
+use Rattle.law_ahead.specs.Timely.{Timely, spareAt}
+use Rattle.law_ahead.specs.Fits.{Fits, ahead-fits, fits-ahead}
 
 -- ---- the held entries of a table
 pub tidy-together : {t : Table} → Tidy t → Together (t .frame) (heldOf t)
@@ -50,13 +51,16 @@ pub tidy-formed : {t : Table} → Tidy t → Fits (t .frame) (heldOf t) → Well
 tidy-formed {t} w f =
     record { tidy = w; fits = fits-ahead (t .frame) (heldOf t) (tidy-together w) f }
 
-pub formed-some : {t : Table} → WellFormed t → 1 ≤ slotsIn (t .frame)
-formed-some w = omega (arith, frame-some (w .tidy .setting))
+pub tidy-some : {t : Table} → Tidy t → 1 ≤ slotsIn (t .frame)
+tidy-some w = omega (arith, frame-some (w .setting))
+
+pub formed-header : {t : Table} → WellFormed t → headerIn (t .frame) < slotsIn (t .frame)
+formed-header w = header-less (w .tidy .setting)
 
 -- ---- entries of which some stand otherwise
 -- entries over which every sum is at most as large
-pub fewer-fits : (F : Frame) (es fs : List Entry) → ((f : Entry → ℕ) → sumOf f fs ≤ sumOf f es) → Fits F es → Fits F fs
-fewer-fits F es fs less f =
+fewer-timely : (F : Frame) (es fs : List Entry) → ((f : Entry → ℕ) → sumOf f fs ≤ sumOf f es) → Timely F es → Timely F fs
+fewer-timely F es fs less f =
     record {
       load = λ t. omega (arith, less (λ e. loadAt e t), f .load t);
       room = λ s d. omega (
@@ -66,6 +70,9 @@ fewer-fits F es fs less f =
         span-le (spareAt F es) (spareAt F fs) s d (λ u. omega (arith, less (λ e. loadAt e u))),
       );
     }
+
+pub fewer-fits : (F : Frame) (es fs : List Entry) → ((f : Entry → ℕ) → sumOf f fs ≤ sumOf f es) → Fits F es → Fits F fs
+fewer-fits F es fs less f = record { test = test-fewer F asks es fs less (f .test); timely = fewer-timely F es fs less (f .timely) }
 
 -- the same entries, one of them elsewhere
 module _ (F : Frame) {e : Entry} {es fs : List Entry} (k : Picked e es fs) where

@@ -12,7 +12,8 @@ use Rattle.spec_model.specs.Requests.{refusal, fieldChecks}
 use Rattle.spec_model.specs.Entries.{entryOf}
 use Rattle.spec_model.specs.ByNumbers.{stream, setting, request}
 use Rattle.spec_model.specs.declared.Setting.{Setting}
-use Rattle.spec_rules.specs.Share.{loadOf, load, slotsFor, order, take-turns, stepB, remains, weight, extra, shareAmong, stepC}
+use Rattle.spec_rules.specs.Header.{endsOf, dueBy, headerTest}
+use Rattle.spec_rules.specs.Share.{loadOf, load, slotsFor, order, take-turns, stepB, remains, weight, extra, shareAmong, extrasPass, stepC}
 use Rattle.spec_rules.specs.Slots.{Run, jobsFrom, tieOrder, jobs, choose, slotsFrom, stepD, prepend, runsFrom, stepE}
 use Rattle.spec_rules.specs.Ahead.{passed, renewed, settled, stepF, goesWell, fitsAhead}
 use Rattle.spec_rules.specs.Settings.{openAnswer, Succeeds, frameOf, opened}
@@ -28,7 +29,7 @@ abbrev memory : List ℕ
 memory = replicate planWords 0
 
 abbrev unit : Setting
-unit = setting 1
+unit = setting 1 0
 
 opens : Succeeds unit
 unfolding openAnswer refusal
@@ -82,7 +83,7 @@ pub example-right :
     sameList (shown (history (opened unit) calls))
     (0 ∷ 0 ∷ 0 ∷ 11 ∷ 10 ∷ 12 ∷ 30 ∷ 0 ∷ 20 ∷ 0 ∷ 17 ∷ 0 ∷ 0 ∷ 1 ∷ 0 ∷ 1 ∷ 2 ∷ 974 ∷ 100 ∷ 287 ∷ 300 ∷ []) ≡ true
 unfolding refusal fieldChecks entryOf roomIn same lower nameInRange
-    loadOf load slotsFor order take-turns stepB remains weight extra shareAmong stepC
+    endsOf dueBy headerTest loadOf load slotsFor order take-turns stepB remains weight extra shareAmong extrasPass stepC
     jobsFrom tieOrder jobs choose slotsFrom stepD prepend runsFrom stepE
     passed renewed settled stepF goesWell fitsAhead
     frameOf opened offerAnswer placed offered heldAnswer withdrawn wordsOfRun wordsOf recordAt recordsOf planOf advanced beacon
@@ -94,7 +95,7 @@ abbrev calls4 : List Call
 calls4 = Offer (request 5 1 2 100 300 4) ∷ Offer (request 7 2 2 600 1000 4) ∷ Offer (request 9 3 1 300 0 1) ∷ []
 
 answers4 : (answerTo (seenNext unit calls4) (request 11 3 2 748 0 2) ≡ 0) × (answerTo (seenNext unit calls4) (request 11 3 2 749 0 2) ≡ 17)
-unfolding refusal fieldChecks entryOf roomIn same lower nameInRange loadOf load slotsFor order take-turns stepB
+unfolding refusal fieldChecks entryOf roomIn same lower nameInRange endsOf dueBy headerTest loadOf load slotsFor order take-turns stepB
     passed renewed settled stepF goesWell fitsAhead frameOf opened offerAnswer placed offered answerOn after tableAfter
 answers4 = (refl, refl)
 

@@ -14,14 +14,14 @@ use Rattle.base_lists.specs.All.{all-map, all-zip, all-both}
 use Rattle.base_lists.specs.Sums.{sum-same}
 use Rattle.base_edf.specs.Time.{span-ext}
 use Rattle.base_edf.specs.Edf.{rem, left}
-use Rattle.spec_model.specs.Frames.{slotsIn}
+use Rattle.spec_model.specs.Frames.{slotsIn, headerIn, roomIn}
 use Rattle.spec_model.specs.Tables.{heldOf}
 use Rattle.spec_model.specs.declared.Frame.{Frame}
 use Rattle.spec_model.specs.declared.Name.{Name}
 use Rattle.spec_model.specs.declared.Entry.{Entry}
 use Rattle.spec_model.specs.declared.Table.{Table}
 use Rattle.spec_rules.specs.Share.{jobCount, stepB, stepC}
-use Rattle.spec_rules.specs.Slots.{Run, jobLength, jobNeed, stepD, stepE, gives}
+use Rattle.spec_rules.specs.Slots.{Run, jobLength, jobNeed, jobs, slotsFrom, stepD, stepE, gives}
 use Rattle.spec_rules.specs.Calls.{planOf}
 use Rattle.spec_rules.specs.WellFormed.{Held, WellFormed}
 use Rattle.law_steps.specs.Held.{Piece, piece-of, not-fraction, other-piece}
@@ -30,8 +30,10 @@ use Rattle.law_steps.specs.Sources.{sourceOf, source-rem, source-left}
 use Rattle.law_steps.specs.StepB.{stepBOf}
 use Rattle.law_steps.specs.Extras.{stepCOf}
 use Rattle.law_ahead.specs.Moved.{own-extras}
-use Rattle.law_ahead.specs.Fits.{pieceOf, loads-now, fits-meets}
-use Rattle.law_ahead.specs.Tables.{formed-together, formed-fits, formed-some}
+use Rattle.law_ahead.specs.Timely.{pieceOf, timely-meets}
+use Rattle.law_ahead.specs.Tables.{formed-together, formed-fits, formed-header}
+use Rattle.law_slots.specs.Choice.{wins}
+use Rattle.law_slots.specs.Idle.{idle-free}
 use Rattle.law_slots.specs.Runs.{runs-cover, runs-once}
 use Rattle.law_interval.specs.Gets.{ofName, nameAt, entry-gets}
 use Rattle.spec_demand.specs.Demand.{timesGiven, givenTo, slotsOf}
@@ -53,6 +55,15 @@ module _ (F : Frame) (es : List Entry) where
             (λ r. ap one-if (sym (and-true (gives r x)))),
       )
 
+  -- no slot of the header
+  pub plan-header : (x : ℕ) → x < headerIn F → timesGiven x (stepE F es) ≡ 0
+  unfolding timesGiven stepE stepD
+  plan-header x l =
+      sum-same (λ (r : Run). one-if (gives r x)) (λ (r : Run). one-if (gives r x && true)) (stepE F es)
+      (λ r. ap one-if (sym (and-true (gives r x))))
+      ∙ runs-cover (λ k. true) x (stepD F es)
+      ∙ ap (wins (λ k. true)) (idle-free (headerIn F) x (slotsFrom (roomIn F) (headerIn F) (jobs F es)) l)
+
 -- ---- what each held entry gets
 module _ (t : Table) (w : WellFormed t) where
   abbrev F : Frame
@@ -67,13 +78,13 @@ module _ (t : Table) (w : WellFormed t) where
   unfolding planOf
   plan-parts =
       all-map (λ e g i q. plan-slots F es (e .name) (i * jobLength F e) (suc i * jobLength F e) ∙ g i q)
-      (entry-gets F es (formed-some w) (formed-together w) (omega (arith, formed-fits w .load 0, loads-now F es (formed-together w))))
+      (entry-gets F es (formed-header w) (formed-together w) (formed-fits w))
 
   pub plan-gets : All (λ e. Gets F (stepBOf F es e) (stepCOf F es e) (planOf t) e) es
   plan-gets =
       let x = own-extras F es (w .tidy .once) in
       all-zip (λ e p q. one e (p .0) (p .1) (q .0) (q .1)) (all-both (formed-together w .held) x)
-      (all-both plan-parts (fits-meets F (stepC F es) es (formed-together w) x (formed-fits w)))
+      (all-both plan-parts (timely-meets F (stepC F es) es (formed-together w) x (formed-fits w .timely)))
     where
       one : (e : Entry) → Held F e → Granted (stepBOf F es e) (stepCOf F es e) e
           → ((i : ℕ) → i < jobCount e

@@ -21,7 +21,8 @@ use Rattle.spec_model.specs.declared.Name.{Name}
 use Rattle.spec_model.specs.declared.Setting.{Setting}
 use Rattle.spec_model.specs.declared.Request.{Request}
 use Rattle.spec_model.specs.declared.Table.{Table}
-use Rattle.spec_demand.specs.Assignment.{Assignment}
+use Rattle.spec_demand.specs.Assignment.{Assignment, LeavesHeader}
+use Rattle.spec_rules.specs.Slots.{Run}
 use Rattle.spec_rules.specs.Settings.{Succeeds, frameOf, opened}
 use Rattle.spec_rules.specs.Records.{recordWords, planWords, recordsOf}
 use Rattle.spec_rules.specs.Calls.{holds, offerAnswer, placed, offered, heldAnswer, freed, withdrawn}
@@ -35,10 +36,10 @@ use Rattle.law_ahead.specs.Formed.{opened-formed, passed-held}
 use Rattle.law_exact.specs.Offer.{offer-served, offer-hopeless}
 use Rattle.spec_demand.specs.History.{Call, Offer, Withdraw, Beacon, answerOn, planOn, seen, after, history, tableAfter}
 use Rattle.spec_demand.specs.Ledger.{Ledger, begins, isOf, note, noteAll, noAdmission, ledgerOf}
-use Rattle.spec_demand.specs.Demand.{timesGiven, Kept, Serves, offerChecks, Right, GivenOnce, answerTo, ServesAll, seenOf, seenNext, Claim}
+use Rattle.spec_demand.specs.Demand.{timesGiven, Kept, Serves, offerChecks, Right, GivenOnce, HeaderFree, answerTo, ServesAll, seenOf, seenNext, Claim}
 use Rattle.law_demand.specs.Link.{same-fields, begins-linked}
 use Rattle.law_demand.specs.Serving.{serves-entry, entry-serves}
-use Rattle.law_demand.specs.Planned.{plan-once}
+use Rattle.law_demand.specs.Planned.{plan-once, plan-header}
 use Rattle.law_demand.specs.Keeps.{Stands, call-stands}
 
 -- ---- along the list
@@ -71,23 +72,30 @@ unfolding noteAll history tableAfter
 along [] l t v = v
 along (c ∷ cs) l t v = along cs (note l (seen t c)) (after t c) (call-stands l t v c)
 
-once-each : (t : Table) (c : Call) → GivenOnce (seen t c)
-unfolding planOn beacon planOf timesGiven recordsOf
-once-each t (Offer q) x = zero-le
-once-each t (Withdraw n) x = zero-le
-once-each t (Beacon ws) x = omega (arith, go (ltb (length ws) planWords))
+-- what holds of a table's plan, and of none, holds of what a call on it shows
+each-plan : (P : List Run → Type 0) → P [] → (t : Table) → P (planOf t) → (c : Call) → P (seen t c .plan)
+unfolding planOn beacon recordsOf
+each-plan P z t p (Offer q) = z
+each-plan P z t p (Withdraw n) = z
+each-plan P z t p (Beacon ws) = go (ltb (length ws) planWords)
   where
-    go : (b : Bool)
-        → (let r = cond b (refusedBeacon t ws) (plannedBeacon t ws (planOf t)) in timesGiven x (recordsOf (r .count) (r .words)) ≤ 1)
-    go true = zero-le
-    go false =
-        subst (λ rs. timesGiven x rs ≤ 1) (sym (records-back (planOf t) (drop (recordWords * length (planOf t)) ws)))
-        (plan-once (t .frame) (heldOf t) x)
+    go : (b : Bool) → (let r = cond b (refusedBeacon t ws) (plannedBeacon t ws (planOf t)) in P (recordsOf (r .count) (r .words)))
+    go true = z
+    go false = subst P (sym (records-back (planOf t) (drop (recordWords * length (planOf t)) ws))) p
 
 once-all : (cs : List Call) (t : Table) → All GivenOnce (history t cs)
-unfolding history
+unfolding history planOf timesGiven
 once-all [] t = stop
-once-all (c ∷ cs) t = and (once-each t c) (once-all cs (after t c))
+once-all (c ∷ cs) t =
+    and (λ x. each-plan (λ rs. timesGiven x rs ≤ 1) zero-le t (plan-once (t .frame) (heldOf t) x) c) (once-all cs (after t c))
+
+header-all : (F : Frame) (cs : List Call) (t : Table) → t .frame ≡ F → All (HeaderFree F) (history t cs)
+unfolding history planOf timesGiven
+header-all F [] t e = stop
+header-all F (c ∷ cs) t e =
+    and (subst (λ G. HeaderFree G (seen t c)) e
+    (λ x l. each-plan (λ rs. timesGiven x rs ≡ 0) refl t (plan-header (t .frame) (heldOf t) x l) c))
+    (header-all F cs (after t c) (frame-kept t c ∙ e))
 
 -- ---- a call that follows
 module _ (l : Ledger) (t : Table) (v : Stands l t) where
@@ -121,23 +129,31 @@ module _ (l : Ledger) (t : Table) (v : Stands l t) where
       go false = refl
 
   -- ---- lack of time
-  pub served : (q : Request) → offerAnswer t q ≡ 0 → (a : Assignment) × All (Serves F a) (begins q ∷ l .held)
+  abbrev ServedBy : Frame → Request → Assignment → Type 0
+  ServedBy G q a = LeavesHeader G a × All (Serves G a) (begins q ∷ l .held)
+
+  pub served : (q : Request) → offerAnswer t q ≡ 0 → (a : Assignment) × ServedBy F q a
   served q z =
       let h = answer-passed t q (inl z) in
       let s = offer-served t (v .formed) q h z in
-      let pairs = paired-with (paired-with (v .paired) (v .kept) (formed-together (v .formed) .held)) (v .kept) (tail (s .1)) in (
+      let pairs = paired-with (paired-with (v .paired) (v .kept) (formed-together (v .formed) .held)) (v .kept) (tail (s .1 .1)) in (
         s .0,
-        and (entry-serves (passed-held t (v .formed) q h) (begins-linked F q) (head (s .1)))
-            (paired-left pairs (λ x e r. entry-serves (r .0 .2) (r .0 .0) (r .2))),
+        (
+          s .1 .0,
+          and (entry-serves (passed-held t (v .formed) q h) (begins-linked F q) (head (s .1 .1)))
+              (paired-left pairs (λ x e r. entry-serves (r .0 .2) (r .0 .0) (r .2))),
+        ),
       )
 
-  pub hopeless : (q : Request) → offerAnswer t q ≡ 17 → (a : Assignment) → All (Serves F a) (begins q ∷ l .held) → ⊥
+  pub hopeless : (q : Request) → offerAnswer t q ≡ 17 → (a : Assignment) → ServedBy F q a → ⊥
   hopeless q z a s =
       let h = answer-passed t q (inr z) in
-      let pairs = paired-with (v .paired) (tail s) (formed-together (v .formed) .held) in
-      offer-hopeless t (v .formed) q h z a
-      (and (serves-entry (passed-held t (v .formed) q h) (begins-linked F q) (head s))
-      (paired-right pairs (λ x e r. serves-entry (r .2) (r .0) (r .1))))
+      let pairs = paired-with (v .paired) (tail (s .1)) (formed-together (v .formed) .held) in
+      offer-hopeless t (v .formed) q h z a (
+        s .0,
+        and (serves-entry (passed-held t (v .formed) q h) (begins-linked F q) (head (s .1)))
+            (paired-right pairs (λ x e r. serves-entry (r .2) (r .0) (r .1))),
+      )
 
 -- ---- the theorem
 start : (s : Setting) → Succeeds s → Stands noAdmission (opened s)
@@ -165,18 +181,19 @@ module _ (s : Setting) (h : Succeeds s) (cs : List Call) where
   served-next : (q : Request) → answerTo (seenNext s cs) q ≡ 0 → (a : Assignment) × ServesAll (frameOf s) (seenOf s cs) q a
   unfolding answerOn
   served-next q z =
-      subst (λ F. (a : Assignment) × All (Serves F a) (begins q ∷ ledger .held)) frame-is (served ledger reached reached-stands q z)
+      subst (λ F. (a : Assignment) × ServedBy ledger reached reached-stands F q a) frame-is (served ledger reached reached-stands q z)
 
   hopeless-next : (q : Request) → answerTo (seenNext s cs) q ≡ 17 → (a : Assignment) → ServesAll (frameOf s) (seenOf s cs) q a → ⊥
   unfolding answerOn
   hopeless-next q z a r =
-      hopeless ledger reached reached-stands q z a (subst (λ F. All (Serves F a) (begins q ∷ ledger .held)) (sym frame-is) r)
+      hopeless ledger reached reached-stands q z a (subst (λ F. ServedBy ledger reached reached-stands F q a) (sym frame-is) r)
 
 pub demand3 : Claim
 demand3 s h cs =
     record {
       kept = subst (λ F. All (Kept F) (ledger s h cs .held ++ ledger s h cs .past)) (frame-is s h cs) (all-append (v .kept) (v .past));
       once = once-all cs (opened s);
+      header = header-all (frameOf s) cs (opened s) (ap (λ (t : Table). t .frame) (opened-none s));
       answers = right-next s h cs;
       accepted = served-next s h cs;
       refused = hopeless-next s h cs;

@@ -1,35 +1,41 @@
--- An assignment that serves the entries shows that they fit: each slot has one taker, kind 1 takes at least its load of every interval,
--- so the others get at most what it leaves, and that feeds them. Assumes nothing.
+-- An assignment that leaves the headers free and serves the entries shows that they fit: each slot after the header has one taker, kind 1
+-- takes at least its load of every interval, so the others get at most what it leaves, and that feeds them; and what kind 1 has had by a
+-- period's end lies after the header. Assumes nothing.
 use mathlib.Core.Path.{_≡_, refl, sym, ap, subst, fun-ext, _∙_}
 use mathlib.Core.Logic.{_⊎_, inl, inr, _≢_}
-use mathlib.Core.Bool.{cond}
+use mathlib.Core.Bool.{true, cond}
 use mathlib.Core.List.{List}
 use mathlib.Core.Option.{Option, none, some}
-use Prim.Native.Nat.{ℕ, suc, _+_, _*_, _≤_, _<_}
-use native.Mathlib.Nat.{suc-mul, mul-comm, mul-le-mul-right, le-of-mul-le-mul-right}
+use Prim.Native.Nat.{ℕ, suc, _+_, _*_, _-_, _/_, _≤_, _<_, zero-le}
+use native.Mathlib.Nat.{suc-mul, mul-comm, mul-le-mul-right, le-of-mul-le-mul-right, div-mul-le-self, mul-div-cancel}
 use native.Mathlib.Decide.{decLe}
 use native.Mathlib.Omega.{arith}
+use borrow.Author.Tests.{eq-eqb}
 use Rattle.spec_lists.specs.Lists.{one-if, sumOf, span}
 use Rattle.base_lists.specs.Tests.{cond-le}
 use Rattle.spec_lists.specs.All.{All}
-use Rattle.base_lists.specs.All.{all-zip, all-of}
-use Rattle.base_lists.specs.Sums.{sum-same, sum-le, sum-add, sum-zero}
-use Rattle.base_edf.specs.Time.{due-in, due-out, span-le, span-ones, span-sum, span-parts}
+use Rattle.base_lists.specs.All.{all-map, all-zip, all-of}
+use Rattle.base_lists.specs.Sums.{sum-same, sum-le, sum-add, sum-zero, each-in-sum}
+use Rattle.base_lists.specs.Picked.{each-picked, picked-one}
+use Rattle.base_edf.specs.Time.{due-in, due-out, span-le, span-agree, span-join, span-zero, span-ones, span-sum, span-parts}
 use Rattle.base_edf.specs.Edf.{source}
 use Rattle.base_edf.specs.Necessity.{Fed, fed-room, fed-gone}
-use Rattle.spec_model.specs.Frames.{slotsIn, roomIn, partOf}
+use Rattle.spec_model.specs.Frames.{slotsIn, headerIn, roomIn, partOf}
 use Rattle.spec_model.specs.Entries.{isNamed, isPiece, asks}
 use Rattle.spec_model.specs.declared.Frame.{Frame}
 use Rattle.spec_model.specs.declared.Name.{Name}
 use Rattle.spec_model.specs.declared.Entry.{Entry}
+use Rattle.spec_rules.specs.Header.{dueOf, dueBy, headerTest}
 use Rattle.spec_rules.specs.WellFormed.{Held, Once}
-use Rattle.law_model.specs.Frames.{room-slots}
+use Rattle.law_model.specs.Frames.{room-header}
 use Rattle.law_model.specs.Names.{same-sym}
 use Rattle.law_steps.specs.Held.{Fraction, Piece, held-kinds, piece-of, piece-other, other-piece, not-fraction, fraction-not}
 use Rattle.law_steps.specs.Sources.{sourceOf, loadAt, fraction-source, piece-source, load-none, load-fraction}
 use Rattle.law_ahead.specs.Moved.{Together}
-use Rattle.law_ahead.specs.Fits.{Fits, loadsAt}
-use Rattle.spec_demand.specs.Assignment.{Assignment, isTo, assigned}
+use Rattle.law_steps.specs.Header.{RoomBy, says-test, whole-long}
+use Rattle.law_ahead.specs.Timely.{Timely, loadsAt}
+use Rattle.law_ahead.specs.Fits.{Fits}
+use Rattle.spec_demand.specs.Assignment.{Assignment, isTo, assigned, LeavesHeader}
 use Rattle.law_exact.specs.Entries.{ServesEntry}
 
 -- the slots of coming interval t that go to an entry
@@ -86,7 +92,34 @@ taker (some x) es w =
           (λ e. ap one-if (same-sym x (e .name))),
     )
 
-module _ (F : Frame) (a : Assignment) where
+-- ---- and the header none
+-- the sum is at least what one of them adds, whatever is added up
+one-in-sum : {A : Type 0} (xs : List A) → All (λ x. (f : A → ℕ) → f x ≤ sumOf f xs) xs
+one-in-sum xs = all-map (λ x p f. picked-one (p .1) (each-in-sum f xs)) (each-picked xs)
+
+module _ (F : Frame) (b : headerIn F < slotsIn F) (a : Assignment) (free : LeavesHeader F a) where
+  -- how many of the entries have slot z of coming interval t, and how many slots they have from x up to y
+  abbrev had : List Entry → (t z : ℕ) → ℕ
+  had es t z = sumOf (λ (e : Entry). one-if (isTo (e .name) (a t z))) es
+
+  none-had : (es : List Entry) (t y : ℕ) → y ≤ headerIn F → span (had es t) 0 y ≡ 0
+  none-had es t y l =
+      span-agree (had es t) (λ z. 0) 0 y
+      (λ z p q. sum-zero (λ (e : Entry). one-if (isTo (e .name) (a t z)))
+      (all-of es (λ e. ap (λ c. one-if (isTo (e .name) c)) (free t z (omega arith)))))
+      ∙ span-zero (λ z. 0) 0 y (λ z p. refl)
+
+  -- by slot y they have no more than the slots after the header
+  had-most : (es : List Entry) → Once es → (t y : ℕ) → headerIn F ≤ y → span (had es t) 0 y ≤ y - headerIn F
+  had-most es w t y l =
+      omega (
+        arith,
+        none-had es t (headerIn F) (omega arith),
+        span-join (had es t) 0 (headerIn F) y zero-le l,
+        span-le (had es t) (λ z. 1) (headerIn F) y (λ z. taker (a t z) es w),
+        span-ones (headerIn F) y,
+      )
+
   -- so of an interval they have no more than may be given
   takers : (t : ℕ) (es : List Entry) → Once es → sumOf (λ e. slotsTo F a e t) es ≤ roomIn F
   unfolding assigned
@@ -94,9 +127,8 @@ module _ (F : Frame) (a : Assignment) where
       omega (
         arith,
         span-sum (λ (e : Entry) z. one-if (isTo (e .name) (a t z))) es 0 (slotsIn F),
-        span-le (λ z. sumOf (λ (e : Entry). one-if (isTo (e .name) (a t z))) es) (λ z. 1) 0 (slotsIn F) (λ z. taker (a t z) es w),
-        span-ones 0 (slotsIn F),
-        room-slots F,
+        had-most es w t (slotsIn F) (omega arith),
+        room-header F (omega arith),
       )
 
   -- kind 1 takes its load, and the others have what they have
@@ -127,8 +159,8 @@ module _ (F : Frame) (a : Assignment) where
           ]
       go (inr p) = omega (arith, load-none e t (not-fraction e (p .kind)), cond-le (isPiece e) (slotsTo F a e t))
 
-  pub fair-fits : (es : List Entry) → Together F es → All (Fair F a) es → Fits F es
-  fair-fits es w h =
+  fair-timely : (es : List Entry) → Together F es → All (Fair F a) es → Timely F es
+  fair-timely es w h =
       record {
         load = λ t. omega (arith, both t);
         room = fed-room sourceOf (λ e t. cond (isPiece e) (slotsTo F a e t) 0) _ (λ t. omega (arith, both t)) (all-zip feeds (w .held) h);
@@ -153,3 +185,65 @@ module _ (F : Frame) (a : Assignment) where
           go (inr p) =
               subst (Fed (sourceOf e)) (fun-ext (λ t. sym (ap (λ b. cond b (slotsTo F a e t) 0) (piece-of e (p .kind)))))
               (s .piece (piece-other p))
+
+  -- ---- the header test is needed
+  -- what is due of an entry by t was assigned by then
+  due-had : (t : ℕ) → t ≤ slotsIn F → (e : Entry) → Held F e → Fair F a e
+      → dueOf F asks t e ≤ span (λ z. one-if (isTo (e .name) (a 0 z))) 0 t
+  unfolding assigned
+  due-had t l e d s = go (held-kinds d)
+    where
+      T : ℕ
+      T = partOf F (e .parts)
+
+      gets : ℕ → ℕ
+      gets z = one-if (isTo (e .name) (a 0 z))
+
+      go : Fraction F e ⊎ Piece F e → dueOf F asks t e ≤ span gets 0 t
+      go (inl f) =
+          let q : t / T ≤ e .parts =
+          le-of-mul-le-mul-right {k = T} (omega (arith, div-mul-le-self t T, f .whole)) (whole-long F e (omega arith) (f .whole)) in
+          rw (eq-eqb (e .kind) 1 (f .kind))
+          (omega (
+            arith,
+            span-parts (t / T) T (asks e) gets (λ j i. s .fractions (f .kind) 0 j (d .alive) (omega arith)),
+            span-join gets 0 (t / T * T) t zero-le (div-mul-le-self t T),
+          ))
+      go (inr p) = rw (not-fraction e (p .kind)) zero-le
+
+  -- By a period end t something is due, so t lies after the header; and the slots from h up to t have one taker each.
+  test-needed : (es : List Entry) → Together F es → All (Fair F a) es → headerTest F asks es ≡ true
+  unfolding dueBy
+  test-needed es w h = says-test F asks es (all-zip (λ e d o k j l. end e (held-kinds d) o k j l) (w .held) (one-in-sum es))
+    where
+      all-had : (t : ℕ) → t ≤ slotsIn F → sumOf (dueOf F asks t) es ≤ span (had es 0) 0 t
+      all-had t l =
+          omega (
+            arith,
+            span-sum (λ (e : Entry) z. one-if (isTo (e .name) (a 0 z))) es 0 t,
+            sum-le (dueOf F asks t) (λ e. span (λ z. one-if (isTo (e .name) (a 0 z))) 0 t)
+                (all-zip (λ e d s. due-had t l e d s) (w .held) h),
+          )
+
+      end : (e : Entry) → Fraction F e ⊎ Piece F e → ((f : Entry → ℕ) → f e ≤ sumOf f es) → e .kind ≡ 1 → (j : ℕ) → j < e .parts
+          → RoomBy F asks es (suc j * partOf F (e .parts))
+      end e (inr p) o k j l = absurd (piece-other p k)
+      end e (inl f) o k j l =
+          let T : ℕ = partOf F (e .parts) in
+          let t : ℕ = suc j * T in
+          let i : t ≤ slotsIn F = omega (arith, f .whole, mul-comm T (e .parts), mul-le-mul-right T l) in
+          elim (decLe (headerIn F) t) [
+            | yes q ↦ omega (arith, all-had t i, had-most es (w .once) 0 t q)
+            | no q ↦ absurd (omega (
+              arith,
+              all-had t i,
+              none-had es 0 t (omega arith),
+              o (dueOf F asks t),
+              ap (λ c. cond c (t / T * asks e) 0) (eq-eqb (e .kind) 1 (f .kind)),
+              ap (λ v. v * asks e) (mul-div-cancel (suc j) (whole-long F e (omega arith) (f .whole))),
+              f .min-least,
+            ))
+          ]
+
+  pub fair-fits : (es : List Entry) → Together F es → All (Fair F a) es → Fits F es
+  fair-fits es w h = record { test = test-needed es w h; timely = fair-timely es w h }

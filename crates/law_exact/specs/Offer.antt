@@ -13,11 +13,11 @@ use Rattle.spec_model.specs.declared.Table.{Table}
 use Rattle.spec_rules.specs.Calls.{holds, offerAnswer}
 use Rattle.spec_rules.specs.WellFormed.{WellFormed}
 use Rattle.law_steps.specs.Offers.{offerChecksBut, isFull, hasTime, answer-fits, answer-not}
-use Rattle.law_ahead.specs.Tables.{formed-some}
+use Rattle.law_ahead.specs.Tables.{formed-header}
 use Rattle.law_ahead.specs.Formed.{passed-together}
-use Rattle.spec_demand.specs.Assignment.{Assignment}
+use Rattle.spec_demand.specs.Assignment.{Assignment, LeavesHeader}
 use Rattle.law_exact.specs.Entries.{ServesEntry}
-use Rattle.law_exact.specs.Plans.{plansAhead, ahead-serves, serves-ahead}
+use Rattle.law_exact.specs.Plans.{plansAhead, plans-leave, ahead-serves, serves-ahead}
 
 module _ (t : Table) (w : WellFormed t) (q : Request)
     (h : refusal (offerChecksBut (holds t (q .name)) (isFull t q) (t .frame) q) ≡ 0)
@@ -25,15 +25,16 @@ module _ (t : Table) (w : WellFormed t) (q : Request)
     abbrev F : Frame
     F = t .frame
 
-    -- the assignment serves the entries and the offered request, which counts as accepted
+    -- the assignment leaves the headers free, and serves the entries and the offered request, which counts as accepted
     abbrev pub ServesOffer : Assignment → Type 0
-    ServesOffer a = All (ServesEntry F a) (entryOf q ∷ heldOf t)
+    ServesOffer a = LeavesHeader F a × All (ServesEntry F a) (entryOf q ∷ heldOf t)
 
     pub offer-served : offerAnswer t q ≡ 0 → (a : Assignment) × ServesOffer a
     offer-served z =
         let es = entryOf q ∷ heldOf t in
-        (plansAhead F es, ahead-serves F es (formed-some w) (passed-together t w q h) (answer-fits t q h z))
+        (plansAhead F es, (plans-leave F es, ahead-serves F es (formed-header w) (passed-together t w q h) (answer-fits t q h z)))
 
     pub offer-hopeless : offerAnswer t q ≡ 17 → (a : Assignment) → ServesOffer a → ⊥
     offer-hopeless z a s =
-        clash (hasTime t q) (serves-ahead F a (entryOf q ∷ heldOf t) (passed-together t w q h) s) (answer-not t q h z)
+        clash (hasTime t q) (serves-ahead F (formed-header w) a (entryOf q ∷ heldOf t) (passed-together t w q h) (s .0) (s .1))
+        (answer-not t q h z)

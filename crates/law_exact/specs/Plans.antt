@@ -16,13 +16,13 @@ use Rattle.base_lists.specs.All.{head, all-map, all-zip, all-both, all-unmap, a
 use Rattle.base_edf.specs.Time.{span-ext}
 use Rattle.base_edf.specs.Edf.{rem, left, next}
 use Rattle.base_edf.specs.Necessity.{Fed, fed-gone, fed-step}
-use Rattle.spec_model.specs.Frames.{slotsIn, partOf}
+use Rattle.spec_model.specs.Frames.{slotsIn, headerIn, roomIn, partOf}
 use Rattle.spec_model.specs.Entries.{isHeld, asks}
 use Rattle.spec_model.specs.declared.Frame.{Frame}
 use Rattle.spec_model.specs.declared.Name.{Name}
 use Rattle.spec_model.specs.declared.Entry.{Entry}
-use Rattle.spec_rules.specs.Share.{load, slotsFor, jobCount, stepB, stepC}
-use Rattle.spec_rules.specs.Slots.{Slot, jobLength, jobNeed, stepD}
+use Rattle.spec_rules.specs.Share.{slotsFor, jobCount, stepB, stepC}
+use Rattle.spec_rules.specs.Slots.{Slot, jobLength, jobNeed, jobs, slotsFrom, stepD}
 use Rattle.spec_rules.specs.Ahead.{stepF, fitsAhead}
 use Rattle.spec_rules.specs.WellFormed.{Held}
 use Rattle.law_steps.specs.Held.{Fraction, Piece, held-kinds, held-is, piece-of, piece-other, not-fraction}
@@ -31,11 +31,13 @@ use Rattle.law_steps.specs.Sources.{sourceOf, free-source, fraction-source, sou
 use Rattle.law_steps.specs.StepB.{stepBOf}
 use Rattle.law_steps.specs.Extras.{stepCOf}
 use Rattle.law_ahead.specs.Moved.{Together, stepOf, moved, own-extras, moved-together, moved-life}
-use Rattle.law_ahead.specs.Fits.{Fits, pieceOf, loads-now, fits-meets, fits-on}
-use Rattle.law_ahead.specs.Exact.{lives-most, ahead-fits, fits-ahead}
+use Rattle.law_ahead.specs.Timely.{pieceOf, timely-meets}
+use Rattle.law_ahead.specs.KeepsUp.{lives-most}
+use Rattle.law_ahead.specs.Fits.{Fits, fits-on, ahead-fits, fits-ahead}
 use Rattle.law_slots.specs.Choice.{wins}
+use Rattle.law_slots.specs.Idle.{idle-free}
 use Rattle.law_interval.specs.Gets.{ofName, nameAt, entry-gets}
-use Rattle.spec_demand.specs.Assignment.{Assignment, isTo, assigned}
+use Rattle.spec_demand.specs.Assignment.{Assignment, isTo, assigned, LeavesHeader}
 use Rattle.law_exact.specs.Entries.{ServesEntry}
 use Rattle.law_exact.specs.Needed.{slotsTo, Fair, entry-fair, fair-entry, fair-fits}
 
@@ -67,7 +69,7 @@ plans-later : (F : Frame) (es : List Entry) (s : Name) (k x y : ℕ)
 unfolding assigned plansAhead entriesAfter
 plans-later F es s k x y = refl
 
-module _ (F : Frame) (es : List Entry) (b : 1 ≤ slotsIn F) (w : Together F es) (f : Fits F es) where
+module _ (F : Frame) (es : List Entry) (b : headerIn F < slotsIn F) (w : Together F es) (f : Fits F es) where
   abbrev on : List Entry
   on = moved (stepB F es) (stepC F es) es
 
@@ -79,7 +81,7 @@ module _ (F : Frame) (es : List Entry) (b : 1 ≤ slotsIn F) (w : Together F es)
       → assigned (plansAhead F es) (e .name) 0 (i * jobLength F e) (suc i * jobLength F e) ≡ jobNeed (stepB F es) (stepC F es) e) es
   gets-now =
       all-map (λ e g i q. plan-assigns F es (e .name) (i * jobLength F e) (suc i * jobLength F e) ∙ g i q)
-      (entry-gets F es b w (omega (arith, f .load 0, loads-now F es w)))
+      (entry-gets F es b w f)
 
   -- One entry, where the plans after the interval serve what becomes of it.
   fair-now : (e : Entry) → Held F e → Granted (stepBOf F es e) (stepCOf F es e) e
@@ -149,7 +151,7 @@ module _ (F : Frame) (es : List Entry) (b : 1 ≤ slotsIn F) (w : Together F es)
                       (r (held-is (z .1)) .piece (piece-other k)))
 
 -- The intervals of n lives: the interval at hand, and the plans after it for what becomes of the entries.
-fair-plans : (n : ℕ) (F : Frame) (es : List Entry) → 1 ≤ slotsIn F → Together F es → Fits F es → All (λ e. e .«life_left» .0 ≤ n) es
+fair-plans : (n : ℕ) (F : Frame) (es : List Entry) → headerIn F < slotsIn F → Together F es → Fits F es → All (λ e. e .«life_left» .0 ≤ n) es
     → All (Fair F (plansAhead F es)) es
 unfolding stepF
 fair-plans zero F [] b w f l = stop
@@ -161,20 +163,29 @@ fair-plans (suc n) F es b w f l =
     let on = moved bs cs es in
     let later = fair-plans n F on b (moved-together F bs cs es w x) (fits-on F cs es w x f) (moved-life F bs cs es w x n l) in
     all-zip (λ e p q. fair-now F es b w f e (p .0) (p .1) (q .0) (q .1) (q .2)) (all-both (w .held) x)
-    (all-three (gets-now F es b w f) (fits-meets F cs es w x f)
+    (all-three (gets-now F es b w f) (timely-meets F cs es w x (f .timely))
     (all-unmap (λ y. isHeld y ≡ true → Fair F (plansAhead F on) y) (stepOf bs cs) es
     (all-kept (Fair F (plansAhead F on)) isHeld (stepF bs cs es) later)))
   where
     all-three : {P Q R : Entry → Type 0} {xs : List Entry} → All P xs → All Q xs → All R xs → All (λ y. P y × Q y × R y) xs
     all-three h k r = all-zip (λ y p q. (p, q .0, q .1)) h (all-both k r)
 
+-- nobody has a slot of a header
+pub plans-leave : (F : Frame) (es : List Entry) → LeavesHeader F (plansAhead F es)
+unfolding plansAhead stepD
+plans-leave F es k x l =
+    let fs = entriesAfter F k es in
+    ap holderOf (idle-free (headerIn F) x (slotsFrom (roomIn F) (headerIn F) (jobs F fs)) l)
+
 -- ---- looking ahead is exact
 -- it says yes: the plans to come serve every entry
-pub ahead-serves : (F : Frame) (es : List Entry) → 1 ≤ slotsIn F → Together F es → fitsAhead F es ≡ true → All (ServesEntry F (plansAhead F es)) es
+pub ahead-serves : (F : Frame) (es : List Entry) → headerIn F < slotsIn F → Together F es → fitsAhead F es ≡ true
+    → All (ServesEntry F (plansAhead F es)) es
 ahead-serves F es b w h =
     all-zip (λ e d s. fair-entry d s) (w .held)
     (fair-plans (mostOf (λ (e : Entry). e .«life_left» .0) es) F es b w (ahead-fits F es w h) (lives-most es))
 
--- some assignment serves every entry: it says yes
-pub serves-ahead : (F : Frame) (a : Assignment) (es : List Entry) → Together F es → All (ServesEntry F a) es → fitsAhead F es ≡ true
-serves-ahead F a es w h = fits-ahead F es w (fair-fits F a es w (all-zip (λ e d s. entry-fair d s) (w .held) h))
+-- some assignment that leaves the headers free serves every entry: it says yes
+pub serves-ahead : (F : Frame) → headerIn F < slotsIn F → (a : Assignment) (es : List Entry) → Together F es → LeavesHeader F a
+    → All (ServesEntry F a) es → fitsAhead F es ≡ true
+serves-ahead F b a es w free h = fits-ahead F es w (fair-fits F b a free es w (all-zip (λ e d s. entry-fair d s) (w .held) h))

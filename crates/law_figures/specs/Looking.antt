@@ -1,4 +1,4 @@
--- What looking ahead knows between two ends: the columns show a table of which it says what it said of the first, v, and which its load does
+-- What looking ahead, but for the header test, knows between two ends: the columns show a table of which it says what it said of the first, v, and which its load does
 -- not overfill. Then what each step of a turn says of v. Assumes nothing.
 use mathlib.Core.Path.{_≡_, refl, sym, ap, subst, _∙_}
 use mathlib.Core.Logic.{⊎-elim}
@@ -19,11 +19,12 @@ use Rattle.spec_model.specs.declared.Table.{Table}
 use Rattle.spec_model.specs.Frames.{roomIn}
 use Rattle.spec_model.specs.Tables.{heldOf}
 use Rattle.spec_rules.specs.Share.{load, overfull, stepB, loadOf}
-use Rattle.spec_rules.specs.Ahead.{renewed, settled, misses, fitsAhead}
+use Rattle.spec_rules.specs.Ahead.{renewed, settled, misses}
 use Rattle.spec_rules.specs.WellFormed.{Tidy}
 use Rattle.law_model.specs.Loads.{load-of-free, load-of-standing}
 use Rattle.law_steps.specs.Places.{load-places}
 use Rattle.law_steps.specs.Closed.{takes}
+use Rattle.law_ahead.specs.KeepsUp.{keepsUpAhead}
 use Rattle.law_ahead.specs.Loop.{ahead-over, ahead-misses}
 use Rattle.law_ahead.specs.Served.{later}
 use Rattle.law_ahead.specs.Leap.{E, ended}
@@ -38,7 +39,7 @@ use Rattle.law_figures.specs.Shows.{Shows, owed-spare, first-after, firs
 use Rattle.law_figures.specs.Onward.{owing, ranked, roomy, shows-next}
 
 abbrev pub ahead : Table → Bool
-ahead t = fitsAhead (t .frame) (heldOf t)
+ahead t = keepsUpAhead (t .frame) (heldOf t)
 
 -- where it begins: the columns are a table's, and an interval has so much room
 pub record Begins (t : Table) (room used : ℕ) (c : Columns) : Type 0 where

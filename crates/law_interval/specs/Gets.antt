@@ -1,34 +1,38 @@
 -- One interval: in step D's slots every request has, in each of its periods, what its jobs need: min + extra for kind 1, the step B and C
 -- slots for a piece. Assumes nothing.
-use mathlib.Core.Path.{_≡_, sym, ap, _∙_}
+use mathlib.Core.Path.{_≡_, sym, ap, subst, _∙_}
 use mathlib.Core.Logic.{_⊎_, inl, inr}
 use mathlib.Core.Bool.{Bool, false, cond}
-use mathlib.Core.List.{List}
+use mathlib.Core.List.{List, _++_}
 use mathlib.Core.Option.{none}
-use Prim.Native.Nat.{ℕ, suc, _*_, _≤_, _<_, zero-le}
-use native.Mathlib.Nat.{le-refl, mul-comm, mul-le-mul-right}
+use Prim.Native.Nat.{ℕ, suc, _+_, _*_, _≤_, _<_, zero-le}
+use native.Mathlib.Nat.{le-refl, zero-add, mul-comm, mul-le-mul-right}
 use native.Mathlib.Decide.{decLe}
 use native.Mathlib.Omega.{arith}
-use lib.ListN.{getD}
+use lib.ListN.{getD, replicate}
 use Rattle.spec_lists.specs.Lists.{sumOf, span}
 use Rattle.spec_lists.specs.All.{All}
 use Rattle.base_lists.specs.All.{all-map, all-zip, all-both}
 use Rattle.base_lists.specs.Sums.{sum-ext, sum-zero}
 use Rattle.base_lists.specs.Picked.{each-picked, picked-only, picked-alone}
 use Rattle.base_edf.specs.Time.{span-ext, span-sum}
-use Rattle.spec_model.specs.Frames.{slotsIn, roomIn}
+use Rattle.spec_model.specs.Frames.{slotsIn, headerIn, roomIn}
 use Rattle.spec_model.specs.Names.{same}
 use Rattle.spec_model.specs.Entries.{isNamed}
 use Rattle.spec_model.specs.declared.Frame.{Frame}
 use Rattle.spec_model.specs.declared.Name.{Name}
 use Rattle.spec_model.specs.declared.Entry.{Entry}
-use Rattle.spec_rules.specs.Share.{load, jobCount, stepB, stepC}
-use Rattle.spec_rules.specs.Slots.{Job, JobName, nameOf, jobAt, jobLength, jobNeed, jobsOf, jobs, stepD}
+use Rattle.spec_rules.specs.Share.{jobCount, stepB, stepC}
+use Rattle.spec_rules.specs.Slots.{Job, JobName, nameOf, jobAt, jobLength, jobNeed, jobsOf, jobs, slotsFrom, stepD}
 use Rattle.spec_rules.specs.WellFormed.{Once}
+use Rattle.law_model.specs.Frames.{room-header}
 use Rattle.law_model.specs.Names.{same-refl}
 use Rattle.law_ahead.specs.Moved.{Together}
+use Rattle.law_ahead.specs.Timely.{loads-now}
+use Rattle.law_ahead.specs.Fits.{Fits}
 use Rattle.law_slots.specs.Choice.{wins}
 use Rattle.law_slots.specs.Meets.{has, Met, slots-meet, met-inside, met-apart, slot-shares}
+use Rattle.law_slots.specs.Idle.{met-after, shared-after}
 use Rattle.law_interval.specs.Jobs.{fills, jobs-sum, jobs-each, jobs-keys, jobs-room, jobs-windows, from-all, from-only}
 
 -- the job is one of the request n
@@ -47,7 +51,7 @@ only-named es w =
     (all-map (λ y q. h y q) (picked-alone (isNamed (e .name)) (p .1) (w (e .name)) (same-refl (e .name)))))
     (each-picked es)
 
-module _ (F : Frame) (es : List Entry) (b : 1 ≤ slotsIn F) (w : Together F es) (l : load es ≤ roomIn F) where
+module _ (F : Frame) (es : List Entry) (b : headerIn F < slotsIn F) (w : Together F es) (f : Fits F es) where
   abbrev need : Entry → ℕ
   need e = jobNeed (stepB F es) (stepC F es) e
 
@@ -57,13 +61,31 @@ module _ (F : Frame) (es : List Entry) (b : 1 ≤ slotsIn F) (w : Together F es)
   -- every job has its need in its window, and nothing elsewhere
   jobs-met : All (Met 0 (slotsIn F) (stepD F es)) (jobs F es)
   unfolding stepD
-  jobs-met = slots-meet (slotsIn F) 0 (jobs F es) (jobs-keys w) (jobs-room w b l) (all-map (λ j h. (h .0, omega arith)) (jobs-windows w b))
+  jobs-met =
+      all-map (λ j m. subst (λ n. Met 0 n (replicate h none ++ slotsFrom (roomIn F) h js) j) whole
+      (met-after h 0 (roomIn F) (slotsFrom (roomIn F) h js) j (rw (zero-add h) m)))
+      (slots-meet (roomIn F) h js (jobs-keys w)
+      (jobs-room w some (omega arith) (omega (arith, f .timely .load 0, loads-now F es w)) (f .test))
+      (all-map (λ j q. (q .0, omega (arith, whole))) (jobs-windows w some)))
+    where
+      h : ℕ
+      h = headerIn F
+
+      js : List Job
+      js = jobs F es
+
+      some : 1 ≤ slotsIn F
+      some = omega arith
+
+      whole : h + roomIn F ≡ slotsIn F
+      whole = omega (arith, room-header F (omega arith))
 
   -- a slot is a request's as often as its jobs, together, have it
   entry-own : All (λ e. (x : ℕ) → nameAt F es (e .name) x ≡ sumOf (λ j. has (stepD F es) j x) (own e)) es
   unfolding stepD
   entry-own =
-      all-map (λ e only x. slot-shares (slotsIn F) 0 (jobs F es) (jobs-keys w) (ofName (e .name)) x
+      all-map (λ e only x. shared-after (headerIn F) (slotsFrom (roomIn F) (headerIn F) (jobs F es)) (jobs F es)
+      (slot-shares (roomIn F) (headerIn F) (jobs F es) (jobs-keys w)) (ofName (e .name)) x
       ∙ jobs-sum w (mine (e .name) x)
       ∙ only (λ y. sumOf (mine (e .name) x) (own y))
       (λ y q. sum-zero (mine (e .name) x)

@@ -4,9 +4,9 @@ use mathlib.Core.Path.{_≡_, refl, sym, ap, ap₂, _∙_}
 use mathlib.Core.Logic.{_⊎_, inl, inr, ⊎-elim}
 use mathlib.Core.Bool.{Bool, true, false, cond, not, _&&_}
 use mathlib.Core.List.{List}
-use Prim.Native.Nat.{ℕ, zero, suc, _+_, _*_, _-_, _≤_, _<_, zero-le}
-use native.Mathlib.Nat.{le-refl, le-of-eq, suc-mul, zero-mul, zero-add, mul-comm, mul-le-mul-right}
-use native.Mathlib.Decide.{ℕ-discrete}
+use Prim.Native.Nat.{ℕ, zero, suc, _+_, _*_, _-_, _/_, _≤_, _<_, zero-le}
+use native.Mathlib.Nat.{le-refl, le-of-eq, suc-mul, zero-mul, zero-add, sub-zero, mul-comm, mul-le-mul-right, le-div-iff-mul-le, div-eq-of-lt}
+use native.Mathlib.Decide.{ℕ-discrete, decLe}
 use native.Mathlib.Omega.{arith}
 use lib.Dec.{eqb}
 use borrow.Author.Tests.{eq-eqb, ne-eqb}
@@ -16,25 +16,27 @@ use Rattle.spec_lists.specs.All.{All, stop, and}
 use Rattle.base_lists.specs.All.{head, tail, all-map, all-zip, all-both, all-of}
 use Rattle.base_lists.specs.All.{all-keep, all-kept, all-sort, all-sorted, all-append, all-left, all-right, all-concat, all-unconcat}
 use Rattle.base_lists.specs.Sums.{sum-ext, sum-le, sum-add, sum-keep, sum-sort, sum-append, sum-concat, sum-zero}
-use Rattle.base_edf.specs.Time.{due}
+use Rattle.base_edf.specs.Time.{due, due-in, due-out, due-le, span-ones}
 use Rattle.base_edf.specs.Edf.{Source, source, later, dem}
 use Rattle.base_edf.specs.Periodic.{periodic-room}
-use Rattle.spec_model.specs.Frames.{slotsIn, roomIn}
+use Rattle.spec_model.specs.Frames.{slotsIn, headerIn, roomIn, partOf}
 use Rattle.spec_model.specs.Names.{same}
-use Rattle.spec_model.specs.Entries.{isNamed, isKind, isPiece}
+use Rattle.spec_model.specs.Entries.{isNamed, isKind, isPiece, asks}
 use Rattle.spec_model.specs.declared.Frame.{Frame}
 use Rattle.spec_model.specs.declared.Name.{Name}
 use Rattle.spec_model.specs.declared.Entry.{Entry}
-use Rattle.spec_rules.specs.Share.{load, order, jobCount, stepB, stepC}
+use Rattle.spec_rules.specs.Header.{dueOf, dueBy, headerTest}
+use Rattle.spec_rules.specs.Share.{load, order, jobCount, needWith, stepB, stepC}
 use Rattle.spec_rules.specs.Slots.{Job, JobName, nameOf, jobAt, jobsFrom, jobLength, jobNeed, jobsOf, lowerNamed, tieOrder, jobs, sameName}
 use Rattle.spec_rules.specs.WellFormed.{Held}
-use Rattle.law_model.specs.Frames.{room-slots}
+use Rattle.law_model.specs.Frames.{room-most, room-header}
 use Rattle.law_steps.specs.Held.{Fraction, Piece, held-kinds, piece-of, not-fraction, fraction-not}
 use Rattle.law_steps.specs.StepB.{order-all, all-order, order-sum}
-use Rattle.law_steps.specs.Extras.{needs-fit}
+use Rattle.law_steps.specs.Header.{held-whole, test-between, test-less}
+use Rattle.law_steps.specs.Extras.{needs-fit, stepC-passes}
 use Rattle.law_ahead.specs.Moved.{Together}
 use Rattle.law_slots.specs.Choice.{Keys}
-use Rattle.law_slots.specs.Service.{jobSource, JobRoom, job-dem}
+use Rattle.law_slots.specs.Service.{jobSource, JobRoom, asking-dem}
 
 -- ---- jobs of one request
 module _ (s : Name) (T need : ℕ) where
@@ -99,20 +101,94 @@ module _ (s : Name) (T need : ℕ) where
       go true = from-once n 0 (k .number)
       go false = le-of-eq (sum-zero (λ (i : Job). 0) (all-of (jobsFrom n s T need 0) (λ i. refl)))
 
-  -- together they ask in a window what a periodic source asks
-  from-dem : (n j x d : ℕ) → sumOf (λ i. dem (jobSource 0 i) x d) (jobsFrom n s T need j) ≡ later (j * T) need T n x d
+-- ---- what jobs ask of a window of slots h, h+1, ..
+-- two conditions that hold together
+due-same : (a b c d v : ℕ) → (a ≤ b → c ≤ d) → (c ≤ d → a ≤ b) → due a b v ≡ due c d v
+due-same a b c d v f g =
+    elim (decLe a b) [
+      | yes q ↦ due-in a b v q ∙ sym (due-in c d v (f q))
+      | no q ↦ elim (decLe c d) [
+        | yes z ↦ absurd (q (g z))
+        | no z ↦ due-out a b v (omega arith) ∙ sym (due-out c d v (omega arith))
+      ]
+    ]
+
+module _ (h d : ℕ) where
+  -- from h on: its need, if it is due by h + d
+  ask-now : (j : Job) → j .release ≤ j .due → dem (jobSource h j) 0 d ≡ due (j .due) (d + h) (j .need)
+  ask-now j q =
+      asking-dem (j .release - h) (j .due - h) (j .need) 0 d (omega arith)
+      ∙ due-same (j .due - h) d (j .due) (d + h) (j .need) (λ z. omega arith) (λ z. omega arith)
+
+  -- from a later slot on: what it asks of that window with no header
+  ask-later : (x : ℕ) (j : Job) → j .release ≤ j .due
+      → dem (jobSource h j) (suc x) d ≡ due (suc (x + h)) (j .release) (due (j .due) (d + h) (j .need))
+  ask-later x j q =
+      asking-dem (j .release - h) (j .due - h) (j .need) (suc x) d (omega arith)
+      ∙ due-same (suc x) (j .release - h) (suc (x + h)) (j .release) (due (j .due - h) d (j .need)) (λ z. omega arith) (λ z. omega arith)
+      ∙ ap (due (suc (x + h)) (j .release))
+      (due-same (j .due - h) d (j .due) (d + h) (j .need) (λ z. omega arith) (λ z. omega arith))
+
+-- the jobs of one request
+module _ (s : Name) (T need : ℕ) where
+  -- all of them, from h on: each at most its need
+  from-most : (h d n j : ℕ) → sumOf (λ i. dem (jobSource h i) 0 d) (jobsFrom n s T need j) ≤ n * need
   unfolding jobsFrom
-  from-dem zero j x d = refl
-  from-dem (suc n) j x d =
+  from-most h d zero j = zero-le
+  from-most h d (suc n) j =
+      omega (
+        arith,
+        ask-now h d (jobAt s T need j) (omega (arith, suc-mul j T)),
+        due-le (suc j * T) (d + h) need,
+        from-most h d n (suc j),
+        suc-mul n need,
+      )
+
+  -- and at most those that are due by then
+  from-due : (h d n j : ℕ) → 1 ≤ T → sumOf (λ i. dem (jobSource h i) 0 d) (jobsFrom n s T need j) ≤ ((d + h) / T - j) * need
+  unfolding jobsFrom
+  from-due h d zero j l = zero-le
+  from-due h d (suc n) j l =
+      let first : dem (jobSource h (jobAt s T need j)) 0 d ≡ due (suc j * T) (d + h) need =
+      ask-now h d (jobAt s T need j) (omega (arith, suc-mul j T)) in
+      let rest : sumOf (λ i. dem (jobSource h i) 0 d) (jobsFrom n s T need (suc j)) ≤ ((d + h) / T - suc j) * need =
+      from-due h d n (suc j) l in
+      elim (decLe (suc j * T) (d + h)) [
+        | yes q ↦
+            let p : suc j ≤ (d + h) / T = le-div-iff-mul-le l .1 q in
+            let e : (d + h) / T - j ≡ suc ((d + h) / T - suc j) = omega arith in
+            omega (arith, due-in (suc j * T) (d + h) need q, ap (λ v. v * need) e, suc-mul ((d + h) / T - suc j) need)
+        | no q ↦
+            let e : (d + h) / T - suc j ≤ (d + h) / T - j = omega arith in
+            omega (arith, due-out (suc j * T) (d + h) need (omega arith), mul-le-mul-right need e)
+      ]
+
+  from-by : (h d n : ℕ) → 1 ≤ T → sumOf (λ i. dem (jobSource h i) 0 d) (jobsFrom n s T need 0) ≤ (d + h) / T * need
+  from-by h d n l = rw (sub-zero ((d + h) / T)) at (from-due h d n 0 l)
+
+  -- from a later slot on: what a periodic source asks
+  from-later : (h x d n j : ℕ)
+      → sumOf (λ i. dem (jobSource h i) (suc x) d) (jobsFrom n s T need j) ≡ later (j * T) need T n (suc (x + h)) (d + h)
+  unfolding jobsFrom
+  from-later h x d zero j = refl
+  from-later h x d (suc n) j =
       let e : suc j * T ≡ j * T + T = suc-mul j T in
       ap₂ _+_
-      (job-dem (jobAt s T need j) x d (omega arith) ∙ ap (λ v. due x (j * T) (due v d need)) e)
-      (from-dem n (suc j) x d ∙ ap (λ v. later v need T n x d) e)
+      (ask-later h d x (jobAt s T need j) (omega arith) ∙ ap (λ v. due (suc (x + h)) (j * T) (due v (d + h) need)) e)
+      (from-later h x d n (suc j) ∙ ap (λ v. later v need T n (suc (x + h)) (d + h)) e)
 
--- a source whose first job runs
-later-dem : (u T m x d : ℕ) → later 0 u T (suc m) x d ≡ dem (source u T u T m) x d
-later-dem u T m zero d = ap (λ v. due v d u + later v u T m 0 d) (zero-add T)
-later-dem u T m (suc x) d = omega (arith, ap (λ v. later v u T m (suc x) d) (zero-add T))
+  from-periodic : (h x d n : ℕ) → 1 ≤ n
+      → sumOf (λ i. dem (jobSource h i) (suc x) d) (jobsFrom n s T need 0) ≡ dem (source need T need T (n - 1)) (suc (x + h)) (d + h)
+  from-periodic h x d zero l = absurd (omega arith)
+  from-periodic h x d (suc n) l =
+      let z : 0 * T ≡ 0 = zero-mul T in
+      let a : 0 + T ≡ T = zero-add T in
+      let p : n ≡ suc n - 1 = omega arith in
+      from-later h x d (suc n) 0
+      ∙ ap (λ v. later v need T (suc n) (suc (x + h)) (d + h)) z
+      ∙ ap (λ v. 0 + later v need T n (suc (x + h)) (d + h)) a
+      ∙ zero-add (later T need T n (suc (x + h)) (d + h))
+      ∙ ap (λ v. later T need T v (suc (x + h)) (d + h)) p
 
 -- ---- all entries
 -- every entry is of kind 1 or a piece
@@ -204,42 +280,76 @@ module _ {F : Frame} {es : List Entry} (w : Together F es) where
       one e (inl f) = rw (eq-eqb (e .kind) 1 (f .kind)) (f .whole)
       one e (inr p) = rw (not-fraction e (p .kind)) (omega arith)
 
-  some-jobs : All (λ e. 1 ≤ jobCount e) es
-  some-jobs = all-map (λ e h. one e (held-kinds h)) (w .held)
-    where
-      one : (e : Entry) → Fraction F e ⊎ Piece F e → 1 ≤ jobCount e
-      one e (inl f) = rw (eq-eqb (e .kind) 1 (f .kind)) (omega (arith, f .parts-least))
-      one e (inr p) = rw (not-fraction e (p .kind)) (le-refl 1)
+  module _ (b : 1 ≤ slotsIn F) where
+    -- an entry has a job, and its jobs are not empty
+    sizes : All (λ e. (1 ≤ jobLength F e) × (1 ≤ jobCount e)) es
+    sizes =
+        all-map (λ e f. (
+          one (jobLength F e) (jobCount e) f,
+          one (jobCount e) (jobLength F e) (mul-comm (jobCount e) (jobLength F e) ∙ f),
+        )) fills
+      where
+        one : (x y : ℕ) → x * y ≡ slotsIn F → 1 ≤ x
+        one zero y f = absurd (omega (arith, zero-mul y))
+        one (suc x) y f = omega arith
 
-  -- An entry's jobs ask what a periodic source asks; those sources have room, since what they ask of the interval fits it. Here alone
-  -- room comes from: what may be given (`roomIn`) is no more than the slots that the jobs fill.
-  pub jobs-room : 1 ≤ slotsIn F → load es ≤ roomIn F → JobRoom 0 (jobs F es)
-  jobs-room b l x d =
-      omega (
-        arith,
-        jobs-sum (λ j. dem (jobSource 0 j) x d),
-        sum-ext (λ e. sumOf (λ j. dem (jobSource 0 j) x d) (own e)) (λ e. dem (periodic e) x d)
-            (all-map (λ e c. each e (jobCount e) c) some-jobs),
-        periodic-room need (jobLength F) jobCount (λ e. jobCount e - 1) (slotsIn F) es b fills all-needs x d,
-      )
-    where
-      all-needs : sumOf (λ e. jobCount e * need e) es ≤ slotsIn F
-      all-needs = omega (arith, needs-fit F es (w .once) (kinds-apart (w .held)) l, room-slots F)
+    -- Here alone room comes from. What the jobs ask of slots h to t: by t < B only kind 1 jobs are due, for which the header test leaves
+    -- room; by the end all are, and they fit what may be given. A window that starts later asks what it asks with no header, where there
+    -- is room since all needs fit the interval.
+    pub jobs-room : headerIn F ≤ slotsIn F → load es ≤ roomIn F → headerTest F asks es ≡ true → JobRoom (headerIn F) (jobs F es)
+    unfolding dueBy
+    jobs-room hb l m zero d =
+        let h = headerIn F in
+        elim (decLe (slotsIn F) (d + h)) [
+          | yes z ↦ omega (
+            arith,
+            jobs-sum (λ j. dem (jobSource h j) 0 d),
+            sum-le (λ e. sumOf (λ j. dem (jobSource h j) 0 d) (own e)) (λ e. jobCount e * need e)
+                (all-of es (λ e. from-most (e .name) (jobLength F e) (need e) h d (jobCount e) 0)),
+            needs-fit F es (w .once) (kinds-apart (w .held)) l,
+            room-header F hb,
+            span-ones 0 d,
+          )
+          | no z ↦
+              let most : sumOf (λ e. sumOf (λ j. dem (jobSource h j) 0 d) (own e)) es ≤ sumOf (dueOf F need (d + h)) es =
+              sum-le (λ e. sumOf (λ j. dem (jobSource h j) 0 d) (own e)) (dueOf F need (d + h))
+              (all-zip (λ e k s. one e (held-kinds k) (s .0) (omega arith)) (w .held) sizes) in
+              ⊎-elim (λ n. omega (arith, jobs-sum (λ j. dem (jobSource h j) 0 d)))
+              (λ n. omega (arith, jobs-sum (λ j. dem (jobSource h j) 0 d), span-ones 0 d))
+              (test-between F need es b (held-whole (w .held)) passes (d + h) (omega arith))
+        ]
+      where
+        passes : headerTest F need es ≡ true
+        passes =
+            test-less F (needWith (stepC F es)) need es (all-of es (λ e k. rw (eq-eqb (e .kind) 1 k) (le-refl _)))
+            (stepC-passes F es (w .once) m)
 
-      periodic : Entry → Source
-      periodic e = source (need e) (jobLength F e) (need e) (jobLength F e) (jobCount e - 1)
+        one : (e : Entry) → Fraction F e ⊎ Piece F e → 1 ≤ jobLength F e → d + headerIn F < slotsIn F
+            → sumOf (λ j. dem (jobSource (headerIn F) j) 0 d) (own e) ≤ dueOf F need (d + headerIn F) e
+        one e (inl f) s z =
+            let m = from-by (e .name) (jobLength F e) (need e) (headerIn F) d (jobCount e) s in
+            rw (eq-eqb (e .kind) 1 (f .kind)) (rw (eq-eqb (e .kind) 1 (f .kind)) at m)
+        one e (inr p) s z =
+            let long : jobLength F e ≡ slotsIn F = ap (λ b. cond b (partOf F (e .parts)) (slotsIn F)) (not-fraction e (p .kind)) in
+            let none : (d + headerIn F) / jobLength F e ≡ 0 = ap (λ v. (d + headerIn F) / v) long ∙ div-eq-of-lt z in
+            omega (arith, from-by (e .name) (jobLength F e) (need e) (headerIn F) d (jobCount e) s, ap (λ v. v * need e) none)
+    jobs-room hb l m (suc x) d =
+        let h = headerIn F in
+        omega (
+          arith,
+          jobs-sum (λ j. dem (jobSource h j) (suc x) d),
+          sum-ext (λ e. sumOf (λ j. dem (jobSource h j) (suc x) d) (own e)) (λ e. dem (periodic e) (suc (x + h)) (d + h))
+              (all-map (λ e s. from-periodic (e .name) (jobLength F e) (need e) h x d (jobCount e) (s .1)) sizes),
+          periodic-room need (jobLength F) jobCount (λ e. jobCount e - 1) (slotsIn F) es b fills all-needs (suc (x + h)) (d + h),
+          span-ones (suc (x + h)) (d + h),
+          span-ones (suc x) d,
+        )
+      where
+        periodic : Entry → Source
+        periodic e = source (need e) (jobLength F e) (need e) (jobLength F e) (jobCount e - 1)
 
-      each : (e : Entry) (m : ℕ) → 1 ≤ m
-          → sumOf (λ j. dem (jobSource 0 j) x d) (jobsFrom m (e .name) (jobLength F e) (need e) 0)
-          ≡ dem (source (need e) (jobLength F e) (need e) (jobLength F e) (m - 1)) x d
-      each e zero c = absurd (omega arith)
-      each e (suc m) c =
-          let z : 0 * jobLength F e ≡ 0 = zero-mul (jobLength F e) in
-          let p : m ≡ suc m - 1 = omega arith in
-          from-dem (e .name) (jobLength F e) (need e) (suc m) 0 x d
-          ∙ ap (λ v. later v (need e) (jobLength F e) (suc m) x d) z
-          ∙ later-dem (need e) (jobLength F e) m x d
-          ∙ ap (λ v. dem (source (need e) (jobLength F e) (need e) (jobLength F e) v) x d) p
+        all-needs : sumOf (λ e. jobCount e * need e) es ≤ slotsIn F
+        all-needs = omega (arith, needs-fit F es (w .once) (kinds-apart (w .held)) l, room-most F)
 
   -- every job is released before it is due, and due by the end of the interval
   pub jobs-windows : 1 ≤ slotsIn F → All (λ j. (j .release < j .due) × (j .due ≤ slotsIn F)) (jobs F es)

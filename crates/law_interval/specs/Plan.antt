@@ -1,21 +1,22 @@
 -- The plan of a well-formed table: its records are exactly the longest runs of step D's slots, in rising order; there are at most
 -- 1,024 of them; and each names a request in range and one of its jobs, and lies within the interval. Assumes nothing.
-use mathlib.Core.Path.{_≡_, ap}
+use mathlib.Core.Path.{_≡_, ap, _∙_}
 use mathlib.Core.Logic.{_⊎_, inl, inr}
 use mathlib.Core.Bool.{true}
 use mathlib.Core.List.{List, map, List·Memᴰ}
+use mathlib.Core.Option.{none}
 use Prim.Native.Nat.{ℕ, zero, suc, _+_, _*_, _≤_, _<_, zero-le}
-use native.Mathlib.Nat.{mul-le-mul-right}
+use native.Mathlib.Nat.{zero-add, mul-le-mul-right}
 use native.Mathlib.Omega.{arith}
 use lib.Dec.{ltb}
-use lib.ListN.{length}
+use lib.ListN.{length, replicate, length-append, length-replicate}
 use borrow.Author.Tests.{eq-eqb, le-ltb}
 use Rattle.spec_lists.specs.Lists.{sumOf}
 use Rattle.base_lists.specs.Tests.{one-if-most, one-if-false}
 use Rattle.spec_lists.specs.All.{All}
 use Rattle.base_lists.specs.All.{all-map, all-zip}
 use Rattle.base_lists.specs.Sums.{sum-most, length-keep}
-use Rattle.spec_model.specs.Frames.{slotsIn}
+use Rattle.spec_model.specs.Frames.{slotsIn, headerIn, roomIn}
 use Rattle.spec_model.specs.Names.{nameInRange}
 use Rattle.spec_model.specs.Entries.{isHeld}
 use Rattle.spec_model.specs.declared.Frame.{Frame}
@@ -23,20 +24,22 @@ use Rattle.spec_model.specs.declared.Name.{Name}
 use Rattle.spec_model.specs.declared.Entry.{Entry}
 use Rattle.spec_model.specs.declared.Table.{Table}
 use Rattle.spec_rules.specs.Share.{jobCount, stepB, stepC}
-use Rattle.spec_rules.specs.Slots.{JobName, Run, nameOf, jobsFrom, jobLength, jobNeed, jobsOf, jobs, stepD, stepE}
+use Rattle.spec_rules.specs.Slots.{JobName, Slot, Run, nameOf, jobsFrom, jobLength, jobNeed, jobsOf, jobs, slotsFrom, runsFrom, stepD, stepE}
 use Rattle.spec_model.specs.Tables.{heldOf}
 use Rattle.spec_rules.specs.Records.{mostRecords}
 use Rattle.spec_rules.specs.Calls.{planOf}
 use Rattle.spec_rules.specs.Reading.{rises}
 use Rattle.spec_rules.specs.WellFormed.{WellFormed}
-use Rattle.law_model.specs.Frames.{mostSlots, frame-most}
+use Rattle.law_model.specs.Frames.{mostSlots, frame-most, room-header, header-less}
 use Rattle.law_steps.specs.Held.{Fraction, Piece, held-kinds, not-fraction}
 use Rattle.law_ahead.specs.Moved.{Together}
 use Rattle.law_ahead.specs.Tables.{formed-together}
 use Rattle.law_slots.specs.Meets.{slots-length, slots-owned}
+use Rattle.law_slots.specs.Idle.{owned-after}
+use Rattle.law_slots.specs.Events.{runs-idle}
 use Rattle.law_slots.specs.Cuts.{nameIn}
 use Rattle.law_slots.specs.Runs.{IsRun, runs-are, all-runs, runs-rise, runs-end, runs-named}
-use Rattle.law_slots.specs.Count.{toCome, few-runs}
+use Rattle.law_slots.specs.Count.{toCome, few-runs, come-later}
 use Rattle.law_interval.specs.Jobs.{jobs-sum, jobs-all, jobs-keys}
 
 -- ---- few records
@@ -58,6 +61,13 @@ all-come (suc n) s T need h =
 abbrev Named : JobName → Type 0
 Named k = (nameInRange (k .name) ≡ true) × (k .number < 16)
 
+-- the records are those of the slots after the header
+pub plan-runs : (F : Frame) (es : List Entry) → stepE F es ≡ runsFrom (headerIn F) (slotsFrom (roomIn F) (headerIn F) (jobs F es))
+unfolding stepE stepD
+plan-runs F es =
+    let cs = slotsFrom (roomIn F) (headerIn F) (jobs F es) in
+    runs-idle (headerIn F) 0 cs ∙ ap (λ s. runsFrom s cs) (zero-add (headerIn F))
+
 module _ {F : Frame} {es : List Entry} (w : Together F es) where
   -- no entry has more than sixteen jobs
   few-jobs : All (λ e. jobCount e ≤ 16) es
@@ -68,11 +78,12 @@ module _ {F : Frame} {es : List Entry} (w : Together F es) where
       one e (inr p) = rw (not-fraction e (p .kind)) (omega arith)
 
   plan-few : length (stepE F es) ≤ length es * 31
-  unfolding stepE stepD
   plan-few =
       omega (
         arith,
-        few-runs (slotsIn F) 0 (jobs F es) (jobs-keys w),
+        ap length (plan-runs F es),
+        few-runs (roomIn F) (headerIn F) (jobs F es) (jobs-keys w),
+        come-later (headerIn F) (jobs F es),
         jobs-sum w (toCome 0),
         sum-most (λ e. sumOf (toCome 0) (jobsOf F (stepB F es) (stepC F es) e)) 31
             (all-map (λ e h. all-come (jobCount e) (e .name) (jobLength F e) (jobNeed (stepB F es) (stepC F es) e) h) few-jobs),
@@ -85,12 +96,23 @@ module _ {F : Frame} {es : List Entry} (w : Together F es) where
 
   plan-named : All (λ r. Named (nameIn r)) (stepE F es)
   unfolding stepE stepD
-  plan-named = runs-named Named (stepD F es) (slots-owned Named (slotsIn F) 0 (jobs F es) jobs-named)
+  plan-named =
+      runs-named Named (stepD F es)
+      (owned-after Named (headerIn F) (slotsFrom (roomIn F) (headerIn F) (jobs F es))
+      (slots-owned Named (roomIn F) (headerIn F) (jobs F es) jobs-named))
 
 -- ---- the plan of a table
-all-slots : (F : Frame) (es : List Entry) → length (stepD F es) ≡ slotsIn F
+all-slots : (F : Frame) (es : List Entry) → headerIn F ≤ slotsIn F → length (stepD F es) ≡ slotsIn F
 unfolding stepD
-all-slots F es = slots-length (slotsIn F) 0 (jobs F es)
+all-slots F es h =
+    let idle : Slot = none in
+    length-append (replicate (headerIn F) none) (slotsFrom (roomIn F) (headerIn F) (jobs F es))
+    ∙ omega (
+      arith,
+      length-replicate (headerIn F) idle,
+      slots-length (roomIn F) (headerIn F) (jobs F es),
+      room-header F h,
+    )
 
 -- what stands in a record: a name, a job, and slots of the interval
 pub record InRange (F : Frame) (r : Run) : Type 0 where
@@ -122,7 +144,7 @@ plan-right t w =
         mul-le-mul-right 31 (length-keep isHeld (t .entries)),
         ap (λ n. n * 31) (w .tidy .size),
       );
-      in-range = all-zip (λ r n e. record { name = n .0; job = n .1; slots = omega (arith, all-slots F es) })
+      in-range = all-zip (λ r n e. record { name = n .0; job = n .1; slots = omega (arith, all-slots F es (omega (arith, header-less (w .tidy .setting)))) })
           (plan-named (formed-together w)) (runs-end (stepD F es));
       short = frame-most (w .tidy .setting);
     }

@@ -129,3 +129,14 @@ few-runs (suc (suc n)) s js w =
           )
       | no q ↦ omega (arith, prepend-length s c (prepend (suc s) d rs))
     ]
+
+-- from a later slot on no more are to come
+pub come-later : (h : ℕ) (js : List Job) → sumOf (toCome h) js ≤ sumOf (toCome 0) js
+come-later h js = sum-le (toCome h) (toCome 0) (all-of js (λ j. omega (arith, fewer (j .release))))
+  where
+    fewer : (r : ℕ) → one-if (ltb h r) ≤ one-if (ltb 0 r)
+    fewer r =
+        elim (decLe (suc h) r) [
+          | yes q ↦ omega (arith, one-if-true (lt-ltb h r q), one-if-true (lt-ltb 0 r (omega arith)))
+          | no q ↦ omega (arith, one-if-false (le-ltb h r (omega arith)))
+        ]

@@ -2,14 +2,14 @@
 -- large the numbers of a table can get on the way. Assumes nothing.
 use mathlib.Core.Path.{_≡_, refl, sym, ap, subst, _∙_}
 use mathlib.Core.Logic.{_⊎_, inl, inr, ⊎-elim}
-use mathlib.Core.Bool.{true, false}
+use mathlib.Core.Bool.{Bool, true, false, cond}
 use mathlib.Core.List.{List, [], _∷_}
 use Prim.Native.Nat.{ℕ, _+_, _*_, _-_, _≤_, min, max, zero-le}
 use native.Mathlib.Nat.{le-trans, mul-comm, mul-le-mul-left}
 use native.Mathlib.Omega.{arith}
 use Rattle.spec_lists.specs.Lists.{sumOf}
 use Rattle.spec_lists.specs.All.{All}
-use Rattle.base_lists.specs.Tests.{clash}
+use Rattle.base_lists.specs.Tests.{clash, cond-zero}
 use Rattle.base_lists.specs.All.{head, tail, all-map, all-zip, all-both, all-kept}
 use Rattle.base_lists.specs.Sums.{sum-ext}
 use Rattle.base_lists.specs.Picked.{Picked, each-picked, picked-all, picked-alone}
@@ -21,7 +21,7 @@ use Rattle.spec_model.specs.declared.Frame.{Frame}
 use Rattle.spec_model.specs.Frames.{slotsIn, partOf}
 use Rattle.spec_model.specs.declared.Name.{Name}
 use Rattle.spec_model.specs.Tables.{heldOf}
-use Rattle.spec_rules.specs.Share.{slotsFor, capacity, take-turns, stepB, remains, headroom, jobCount, weight, extra, loadOf, everyone}
+use Rattle.spec_rules.specs.Share.{slotsFor, capacity, take-turns, stepB, remains, headroom, jobCount, shareOf, weight, extra, loadOf, shareAmong, takesPart, stepC}
 use Rattle.spec_rules.specs.WellFormed.{Held, Once, Tidy}
 use Rattle.law_model.specs.Names.{same-refl}
 use Rattle.law_model.specs.Frames.{mostSlots, frame-most}
@@ -29,7 +29,7 @@ use Rattle.law_model.specs.Loads.{load-of-none, load-of-free, load-of-most}
 use Rattle.law_steps.specs.Held.{Fraction, Piece, held-kinds, held-is, piece-of, fraction-not}
 use Rattle.law_steps.specs.Grants.{slots-none, slots-there}
 use Rattle.law_steps.specs.StepB.{stepBOf, owedBefore, all-order}
-use Rattle.law_steps.specs.Extras.{weight-sum, stepCOf, stepC-of}
+use Rattle.law_steps.specs.Extras.{weight-sum, among-of, stepCOf}
 use Rattle.law_steps.specs.Settled.{headroom-fraction, headroom-whole, headroom-transfer}
 use Rattle.law_steps.specs.Places.{tidy-held, held-sum, piece-places}
 
@@ -91,20 +91,29 @@ module _ (t : Table) (w : Tidy t) where
           → stepBOf F es e ≡ min (e .owed .0) (capacity F es - owedBefore e (t .entries))
       fraction e f h = omega (arith, h (fraction-not e (f .kind)))
 
-  -- W, place by place
-  pub weight-places :
-      weight everyone (stepB F es) es ≡ sumOf (λ e. jobCount e * headroom e (takes (capacity F es) (t .entries) e)) (t .entries)
-  weight-places =
-      weight-sum everyone (stepB F es) es
-      ∙ sum-ext (λ e. jobCount e * headroom e (stepBOf F es e)) (λ e. jobCount e * headroom e (takes (capacity F es) (t .entries) e))
-      (all-map (λ e h. ap (λ b. jobCount e * headroom e b) h) takes-held)
-      ∙ sym (held-sum (λ e. jobCount e * headroom e (takes (capacity F es) (t .entries) e)) refl (w .entries))
+  -- d of each that takes part
+  abbrev pub shareIn : (takesPart : Entry → Bool) → Entry → ℕ
+  shareIn takesPart e = cond (takesPart e) (headroom e (takes (capacity F es) (t .entries) e)) 0
 
-  pub extra-held :
-      All (λ e. stepCOf F es e
-      ≡ extra (remains F es) (weight everyone (stepB F es) es) (headroom e (takes (capacity F es) (t .entries) e))) es
-  extra-held =
-      all-zip (λ e h k. h ∙ ap (λ b. extra (remains F es) (weight everyone (stepB F es) es) (headroom e b)) k) (stepC-of F es (w .once)) takes-held
+  -- W, place by place
+  pub weight-places : (takesPart : Entry → Bool)
+      → weight takesPart (stepB F es) es ≡ sumOf (λ e. jobCount e * shareIn takesPart e) (t .entries)
+  weight-places takesPart =
+      weight-sum takesPart (stepB F es) es
+      ∙ sum-ext (λ e. jobCount e * shareOf takesPart (stepB F es) e) (λ e. jobCount e * shareIn takesPart e)
+      (all-map (λ e h. ap (λ b. jobCount e * cond (takesPart e) (headroom e b) 0) h) takes-held)
+      ∙ sym (held-sum (λ e. jobCount e * shareIn takesPart e) (ap (λ v. 1 * v) (cond-zero (takesPart freeEntry))) (w .entries))
+
+  pub among-held : (takesPart : Entry → Bool) → All (λ e. slotsFor (e .name) (shareAmong takesPart (remains F es) (stepB F es) es)
+      ≡ extra (remains F es) (weight takesPart (stepB F es) es) (shareIn takesPart e)) es
+  among-held takesPart =
+      all-zip (λ e h k. h ∙ ap (λ b. extra (remains F es) (weight takesPart (stepB F es) es) (cond (takesPart e) (headroom e b) 0)) k)
+      (among-of takesPart F es (w .once)) takes-held
+
+  pub extra-held : All (λ e. stepCOf F es e
+      ≡ extra (remains F es) (weight (takesPart F es) (stepB F es) es) (shareIn (takesPart F es) e)) es
+  unfolding stepC
+  extra-held = among-held (takesPart F es)
 
   -- ---- how large numbers get
   pub slots-most : slotsIn F ≤ mostSlots

@@ -2,29 +2,33 @@
 -- all jobs of an interval fit it, where kind 1's minimums do. Assumes nothing.
 use mathlib.Core.Path.{_≡_, refl, ap, ap₂, _∙_}
 use mathlib.Core.Logic.{_⊎_, inl, inr}
-use mathlib.Core.Bool.{Bool, true, false, cond, not}
+use mathlib.Core.Bool.{Bool, true, false, cond, not, _||_}
 use mathlib.Core.List.{List}
 use Prim.Native.Nat.{ℕ, _+_, _*_, _/_, _≤_, _<_, zero-le}
-use native.Mathlib.Nat.{le-of-eq, mul-zero, one-mul, mul-comm, mul-add, mul-le-mul-left, div-le-of-le-mul}
+use native.Mathlib.Nat.{le-refl, le-of-eq, mul-zero, one-mul, mul-comm, mul-add, mul-le-mul-left, div-le-of-le-mul}
 use native.Mathlib.Decide.{ℕ-discrete, decLe}
 use native.Mathlib.Omega.{arith}
 use lib.Dec.{leb}
-use borrow.Author.Tests.{lt-ltb, le-ltb, le-leb, lt-leb}
+use borrow.Author.Tests.{eq-eqb, lt-ltb, le-ltb, le-leb, lt-leb}
 use Rattle.spec_lists.specs.Lists.{sumOf}
 use Rattle.spec_lists.specs.All.{All}
 use Rattle.base_lists.specs.All.{all-map, all-zip, all-of}
-use Rattle.base_lists.specs.Sums.{sum-ext, sum-same, sum-add, sum-zero, sum-tight}
+use Rattle.base_lists.specs.Tests.{cond-le}
+use Rattle.base_lists.specs.Sums.{sum-ext, sum-same, sum-le, sum-add, sum-zero, sum-tight}
 use Rattle.base_edf.specs.Share.{shares-fit}
 use Rattle.spec_model.specs.Entries.{isKind, isPiece, asks}
 use Rattle.spec_model.specs.declared.Entry.{Entry}
-use Rattle.spec_model.specs.Frames.{roomIn}
+use Rattle.spec_model.specs.Frames.{slotsIn, headerIn, roomIn}
 use Rattle.spec_model.specs.declared.Frame.{Frame}
 use Rattle.spec_rules.specs.Share.{Grant, loadOf, load, slotsFor, stepB, remains, headroom, jobCount, shareOf, weight, extra, shareAmong, everyone}
-use Rattle.spec_rules.specs.Share.{stepC}
+use Rattle.spec_rules.specs.Share.{needWith, extrasPass, takesPart, stepC}
+use Rattle.spec_rules.specs.Header.{headerTest}
 use Rattle.spec_rules.specs.Slots.{jobNeed}
-use Rattle.spec_rules.specs.WellFormed.{Once}
+use Rattle.spec_rules.specs.WellFormed.{Held, Once}
+use Rattle.law_model.specs.Frames.{room-most}
 use Rattle.law_model.specs.Loads.{load-of-fraction, load-of-none}
 use Rattle.law_steps.specs.Grants.{slots-map}
+use Rattle.law_steps.specs.Header.{held-whole, no-header, test-less}
 use Rattle.law_steps.specs.StepB.{stepBOf, stepB-within, stepB-total, remains-rest}
 
 -- what step C gives an entry
@@ -179,24 +183,65 @@ all-fit F cs es w k l x =
     parts e false p k h =
         omega (arith, load-of-none e k, ap (λ b. cond b (stepBOf F es e) 0) h, one-mul (stepBOf F es e + c e), one-mul (c e))
 
--- ---- step C, in which all take part
+-- ---- step C, among those that take part
 module _ (F : Frame) (es : List Entry) (w : Once es) where
-  pub stepC-of : All (λ e. stepCOf F es e ≡ extra (remains F es) (weight everyone (stepB F es) es) (headroomOf F es e)) es
+  pub stepC-of : All (λ e. stepCOf F es e
+      ≡ extra (remains F es) (weight (takesPart F es) (stepB F es) es) (shareOf (takesPart F es) (stepB F es) e)) es
   unfolding stepC
-  stepC-of = among-of everyone F es w
+  stepC-of = among-of (takesPart F es) F es w
 
   pub stepC-within : All (λ e. stepCOf F es e ≤ headroomOf F es e) es
   unfolding stepC
-  stepC-within = among-within everyone F es w
+  stepC-within =
+      all-map (λ e h. omega (arith, h, cond-le (takesPart F es e) (headroomOf F es e))) (among-within (takesPart F es) F es w)
 
   pub stepC-total : sumOf (λ e. jobCount e * stepCOf F es e) es ≤ remains F es
   unfolding stepC
-  stepC-total = among-total everyone F es w
+  stepC-total = among-total (takesPart F es) F es w
 
   pub stepC-last : All (λ e. isPiece e ≡ true → (stepCOf F es e ≡ 0) ⊎ (stepBOf F es e ≡ e .owed .0)) es
   unfolding stepC
-  stepC-last = among-last everyone F es w
+  stepC-last = among-last (takesPart F es) F es w
 
   pub needs-fit : All (λ e. isPiece e ≡ not (isKind 1 e)) es → load es ≤ roomIn F
       → sumOf (λ e. jobCount e * jobNeed (stepB F es) (stepC F es) e) es ≤ roomIn F
   needs-fit k l = all-fit F (stepC F es) es w k l stepC-total
+
+  -- with what is handed out the header test passes, where it passes with minimums: if it fails with everyone's extras, kind 1 has none
+  pub stepC-passes : headerTest F asks es ≡ true → headerTest F (needWith (stepC F es)) es ≡ true
+  unfolding stepC extrasPass
+  stepC-passes m = go (extrasPass F es) refl
+    where
+      others : List Grant
+      others = shareAmong (λ e. not (isKind 1 e)) (remains F es) (stepB F es) es
+
+      none : (e : Entry) → slotsFor (e .name) others ≤ shareOf (λ e. not (isKind 1 e)) (stepB F es) e → e .kind ≡ 1
+          → needWith others e ≤ asks e
+      none e h k = omega (arith, h, ap (λ b. cond (not b) (headroomOf F es e) 0) (eq-eqb (e .kind) 1 k))
+
+      go : (b : Bool) → extrasPass F es ≡ b
+          → headerTest F (needWith (shareAmong (λ e. b || not (isKind 1 e)) (remains F es) (stepB F es) es)) es ≡ true
+      go true q = q
+      go false q = test-less F asks (needWith others) es (all-map none (among-within (λ e. not (isKind 1 e)) F es w)) m
+
+  -- without a header everyone takes part
+  pub all-take-part : headerIn F ≡ 0 → 1 ≤ slotsIn F → All (Held F) es → All (λ e. isPiece e ≡ not (isKind 1 e)) es → load es ≤ roomIn F
+      → extrasPass F es ≡ true
+  unfolding extrasPass
+  all-take-part z b h k l =
+      no-header F (needWith cs) es z b (held-whole h)
+      (omega (
+        arith,
+        all-fit F cs es w k l (among-total everyone F es w),
+        room-most F,
+        sum-le (λ e. cond (isKind 1 e) (e .parts * needWith cs e) 0) (λ e. jobCount e * jobNeed (stepB F es) cs e)
+            (all-of es (λ e. one e (isKind 1 e))),
+      ))
+    where
+      cs : List Grant
+      cs = shareAmong everyone (remains F es) (stepB F es) es
+
+      one : (e : Entry) (f : Bool) → cond f (e .parts * needWith cs e) 0
+          ≤ cond f (e .parts) 1 * cond f (needWith cs e) (slotsFor (e .name) (stepB F es) + slotsFor (e .name) cs)
+      one e true = le-refl _
+      one e false = zero-le

@@ -1,6 +1,7 @@
 pub mod RequestLaws
 pub mod Fields
 pub mod Held
+pub mod Header
 pub mod Settled
 pub mod Sources
 pub mod Grants

@@ -21,7 +21,7 @@ enum Verb {
 // What each verb asks of the fields after it.
 const OPEN_FORM: [Field; FIELDS] = [
     Field::Needed,
-    Field::Empty,
+    Field::MayBeEmpty(0),
     Field::Empty,
     Field::Empty,
     Field::Empty,
@@ -76,7 +76,9 @@ fn form_of(verb: Verb) -> [Field; FIELDS]
 fn setting_from(values: [u32; FIELDS]) -> Setting
     ensures { λ r. ⌜ r ≡ settingFrom values ⌝ }
 {
-    Setting { units: values[0] }
+    let units = values[0];
+    let header = values[1];
+    Setting { units, header }
 }
 
 fn name_from(values: [u32; FIELDS]) -> Name

@@ -3,7 +3,7 @@ use mathlib.Core.Path.{_≡_, refl, ap, _∙_}
 use mathlib.Core.Logic.{_⊎_, inl, inr}
 use mathlib.Core.Bool.{Bool, true, false}
 use mathlib.Core.List.{List, [], _∷_, map}
-use Prim.Native.Nat.{ℕ, zero, suc, _^_, _≤_, _<_, max}
+use Prim.Native.Nat.{ℕ, zero, suc, _+_, _/_, _%_, _^_, _≤_, _<_, max}
 use native.Mathlib.Nat.{le-refl, pow-succ'}
 use native.Mathlib.Omega.{arith}
 use lib.Dec.{leb}
@@ -88,3 +88,15 @@ decimal-most n = omega (arith, decimal-length n, topPower n .low)
 
 pub decimal-least : (n : ℕ) → 1 ≤ length (decimal n)
 decimal-least n = omega (arith, decimal-length n)
+
+-- a number below ten is its only digit
+lowest : (k m : ℕ) → 10 ^ k ≤ m → m < 10 → k ≡ 0
+lowest zero m l h = refl
+lowest (suc k) m l h = omega (arith, pow-succ' 10 k, power-positive k)
+
+pub one-digit : (n : ℕ) → n < 10 → decimal n ≡ (48 + n) ∷ []
+one-digit n h =
+    let t = topPower n in
+    let z : t .top ≡ 0 = lowest (t .top) (max 1 n) (t .least) (omega arith) in
+    let d : n / 1 % 10 ≡ n = omega arith in
+    digits n ∙ ap (λ k. map (digitAt n) (powers (suc k))) z ∙ ap (λ x. (48 + x) ∷ []) d

@@ -32,16 +32,20 @@ pub fn put_bytes(out: &mut [u8], at: usize, bytes: &[u8]) -> usize
     at + bytes.len()
 }
 
-// The digits at the powers of ten that are at most n; 0 has the last one. Powers above n cost a comparison and no division.
+// The digits at the powers of ten that are at most n. Powers above n cost a comparison and no division. Most answers have one digit, 0 among
+// them, and cost no comparison with a power.
 pub fn put_number(out: &mut [u8], at: usize, n: u32) -> usize
     requires { ⌜ at + numberMost ≤ length (now out) ⌝ }
     ensures { λ r. ⌜ (r ≡ at + length (decimal n)) × (now (out .exit) ≡ written (now (out .entry)) at (decimal n)) ⌝ }
 {
-    let bound = if n == 0 { 1 } else { n };
+    if n < 10 {
+        out[at] = (48 + n) as u8;
+        return at + 1;
+    }
     let mut end = at;
     for i in 0..10 {
         let p = TENS[i];
-        if p <= bound {
+        if p <= n {
             out[end] = (48 + n / p % 10) as u8;
             end += 1;
         }

@@ -1,10 +1,10 @@
 -- Each bound of demand 3 lies where it is: of admissions, assignments and lists of calls, those on the edge are right, and those one slot,
 -- one interval or one number further are refused. The edits of this crate move them. Intervals have 8 slots. Assumes nothing.
-use mathlib.Core.Path.{_≡_, refl, ap}
+use mathlib.Core.Path.{_≡_, refl, sym, ap}
 use mathlib.Core.Logic.{_⊎_, inl, inr, ⊎-elim}
-use mathlib.Core.Bool.{Bool, true, false, cond}
+use mathlib.Core.Bool.{Bool, true, false, cond, _&&_}
 use mathlib.Core.List.{List, [], _∷_, _++_}
-use mathlib.Core.Option.{none, some}
+use mathlib.Core.Option.{none, some, Option·none-ne-some}
 use Prim.Native.Nat.{ℕ, zero, suc, _≤_, _<_, _-_}
 use native.Mathlib.Omega.{arith}
 use lib.Dec.{ltb}
@@ -15,7 +15,7 @@ use Rattle.base_lists.specs.All.{head, tail}
 use Rattle.base_edf.specs.Time.{span-le}
 use Rattle.spec_model.specs.Names.{same, nameInRange}
 use Rattle.spec_model.specs.Requests.{refusal, fieldChecks}
-use Rattle.spec_model.specs.ByNumbers.{interval, stream, request}
+use Rattle.spec_model.specs.ByNumbers.{interval, framed, stream, request}
 use Rattle.spec_model.specs.declared.Frame.{Frame}
 use Rattle.spec_model.specs.declared.Setting.{Setting}
 use Rattle.spec_model.specs.declared.Request.{Request}
@@ -23,10 +23,10 @@ use Rattle.spec_model.specs.declared.Table.{Table}
 use Rattle.spec_rules.specs.Slots.{Run, gives}
 use Rattle.spec_rules.specs.Settings.{opened}
 use Rattle.spec_rules.specs.Records.{planWords}
-use Rattle.spec_demand.specs.Assignment.{Assignment, isTo, assigned}
+use Rattle.spec_demand.specs.Assignment.{Assignment, isTo, assigned, LeavesHeader}
 use Rattle.spec_demand.specs.History.{Call, Offer, Withdraw, Beacon, Seen, seen, after, history, tableAfter}
 use Rattle.spec_demand.specs.Ledger.{Admission, Ledger, begins, noteDone, note, noteAll, ledgerOf}
-use Rattle.spec_demand.specs.Demand.{timesGiven, givenTo, slotsOf, had, Kept, Serves, offerChecks, Right, GivenOnce, Demand3, seenOf}
+use Rattle.spec_demand.specs.Demand.{timesGiven, givenTo, slotsOf, had, Kept, Serves, offerChecks, Right, GivenOnce, HeaderFree, Demand3, seenOf}
 use Rattle.spec_demand.specs.Demand.{seenNext}
 
 abbrev admitted : Request → List (List Run) → Admission
@@ -34,6 +34,10 @@ admitted q ps = record { request = q; plans = ps }
 
 abbrev eight : Frame
 eight = interval 8
+
+-- the first two of them are the header's
+abbrev headed : Frame
+headed = framed 8 2
 
 -- a record that gives n slots from x on
 abbrev slots : (stream x n : ℕ) → Run
@@ -130,6 +134,15 @@ pub slot-twice : (n a : ℕ) → GivenOnce (planned n a (slots 5 0 2 ∷ slots 7
 unfolding timesGiven
 slot-twice n a o = omega (arith, o 1)
 
+-- the first slot after the header may be given, the last one of it not
+pub header-edge : (n a : ℕ) → HeaderFree headed (planned n a (slots 5 2 2 ∷ []))
+unfolding timesGiven
+header-edge n a x l = elim (below-two x l) [ inl e ↦ rw e refl | inr e ↦ rw e refl ]
+
+pub header-given : (n a : ℕ) → HeaderFree headed (planned n a (slots 5 1 2 ∷ [])) → ⊥
+unfolding timesGiven
+header-given n a f = omega (arith, f 1 (omega arith))
+
 -- ---- admissions
 -- stream 5 ends with its life, stream 9 is withdrawn, stream 7 lasts; a refused call begins, ends and plans nothing
 pub ledger-edge :
@@ -208,6 +221,10 @@ pub slot-of-one : assigned (gets 5 (8 ∷ [])) (stream 7) 0 0 8 ≡ 0
 unfolding assigned same
 slot-of-one = refl
 
+-- where there is no header, nothing is to be left free
+no-header : (a : Assignment) → LeavesHeader eight a
+no-header a k x l = absurd (omega arith)
+
 -- kind 1: all four slots of each period
 pub fraction-served : Serves eight (gets 5 (8 ∷ [])) (begins (request 5 1 2 4 4 1))
 unfolding assigned same
@@ -257,6 +274,33 @@ nine-unserved a s =
     let most = span-le (λ z. one-if (isTo (stream 7) (a 0 z))) (λ z. 1) 0 8 (λ z. one-most (isTo (stream 7) (a 0 z))) in
     omega (arith, s .periods (λ e. omega arith) 0 (omega arith) (omega arith), most)
 
+-- slots from 2 up to n, after the header, and from the first on
+abbrev after2 : (n : ℕ) → Assignment
+after2 n k z = cond (ltb 1 z && ltb z n) (some (stream 7)) none
+
+pub leaves-edge : (n : ℕ) → LeavesHeader headed (after2 n)
+leaves-edge n k x l = elim (below-two x l) [ inl e ↦ rw e refl | inr e ↦ rw e refl ]
+
+pub header-assigned : LeavesHeader headed (gets 7 (0 ∷ 1 ∷ [])) → ⊥
+header-assigned f = Option·none-ne-some (stream 7) (sym (f 1 0 (omega arith)))
+
+six-served : Serves headed (after2 8) (begins (transferOf 6))
+unfolding assigned had slotsOf givenTo same
+six-served =
+    record { fractions = λ e. absurd (omega arith); periods = λ n i p q. let z : i ≡ 0 = omega arith in rw z (omega arith) }
+
+seven-unserved : (a : Assignment) → LeavesHeader headed a → Serves headed a (begins (transferOf 7)) → ⊥
+unfolding assigned had slotsOf givenTo same
+seven-unserved a f s =
+    let most = span-le (λ z. one-if (isTo (stream 7) (a 0 z))) (λ z. 1) 2 8 (λ z. one-most (isTo (stream 7) (a 0 z))) in
+    omega (
+      arith,
+      s .periods (λ e. omega arith) 0 (omega arith) (omega arith),
+      ap (λ c. one-if (isTo (stream 7) c)) (f 0 0 (omega arith)),
+      ap (λ c. one-if (isTo (stream 7) c)) (f 0 1 (omega arith)),
+      most,
+    )
+
 -- ---- lists of calls
 -- a call that follows is the last of the longer list
 history-ends : (t : Table) (cs : List Call) (c : Call) → history t (cs ++ (c ∷ [])) ≡ history t cs ++ (seen (tableAfter t cs) c ∷ [])
@@ -284,6 +328,9 @@ module _ (next : Call → Seen) where
   pub plan-twice : Demand3 eight (planned planWords 0 (slots 5 0 2 ∷ slots 7 1 1 ∷ []) ∷ []) next → ⊥
   plan-twice d = slot-twice planWords 0 (head (d .once))
 
+  pub header-planned : Demand3 headed (planned planWords 0 (slots 5 1 2 ∷ []) ∷ []) next → ⊥
+  header-planned d = header-given planWords 0 (head (d .header))
+
 -- every call that follows is refused, or succeeds
 abbrev refuses : Call → Seen
 refuses (Offer q) = answered (Offer q) 17
@@ -297,21 +344,33 @@ pub answers-right : Demand3 eight five refuses → ⊥
 answers-right d = held-not-withdrawn (d .answers (Withdraw (stream 5)))
 
 pub offered-served : Demand3 eight [] accepts → ⊥
-offered-served d = let s = d .accepted (transferOf 9) refl in nine-unserved (s .0) (head (s .1))
+offered-served d = let s = d .accepted (transferOf 9) refl in nine-unserved (s .0) (head (s .1 .1))
 
 -- a held one that no assignment serves, whatever is offered
 pub held-served : Demand3 eight (answered (Offer (transferOf 9)) 0 ∷ []) accepts → ⊥
 unfolding same noteDone note noteAll
-held-served d = let s = d .accepted (fraction 1) refl in nine-unserved (s .0) (head (tail (s .1)))
+held-served d = let s = d .accepted (fraction 1) refl in nine-unserved (s .0) (head (tail (s .1 .1)))
 
 pub none-refused : Demand3 eight [] refuses → ⊥
 unfolding noteAll
-none-refused d = d .refused (transferOf 8) refl (gets 7 (8 ∷ [])) (and eight-served stop)
+none-refused d = d .refused (transferOf 8) refl (gets 7 (8 ∷ [])) (no-header (gets 7 (8 ∷ [])), and eight-served stop)
 
 pub refused-exact : Demand3 eight [] refuses → ⊥
 unfolding refusal fieldChecks offerChecks same nameInRange noteAll
-refused-exact d = d .exact (transferOf 8) refl .0 refl (gets 7 (8 ∷ [])) (and eight-served stop)
+refused-exact d = d .exact (transferOf 8) refl .0 refl (gets 7 (8 ∷ [])) (no-header (gets 7 (8 ∷ [])), and eight-served stop)
 
 pub accepted-exact : Demand3 eight [] accepts → ⊥
 unfolding refusal fieldChecks offerChecks same nameInRange noteAll
-accepted-exact d = omega (arith, d .exact (transferOf 9) refl .1 (λ a s. nine-unserved a (head s)))
+accepted-exact d = omega (arith, d .exact (transferOf 9) refl .1 (λ a s. nine-unserved a (head (s .1))))
+
+-- with a header: what fits the slots after it is served, and one slot more is not
+pub headed-served : Demand3 headed [] accepts → ⊥
+headed-served d = let s = d .accepted (transferOf 7) refl in seven-unserved (s .0) (s .1 .0) (head (s .1 .1))
+
+pub headed-refused : Demand3 headed [] refuses → ⊥
+unfolding noteAll
+headed-refused d = d .refused (transferOf 6) refl (after2 8) (leaves-edge 8, and six-served stop)
+
+pub headed-exact : Demand3 headed [] accepts → ⊥
+unfolding refusal fieldChecks offerChecks same nameInRange noteAll
+headed-exact d = omega (arith, d .exact (transferOf 7) refl .1 (λ a s. seven-unserved a (s .0) (head (s .1))))

@@ -1,4 +1,5 @@
--- Demand 3, "What a list of calls gives" of document 01, as one statement over arguments, answers and plans: no table is named in it.
+-- Demand 3, "What a list of calls gives" of document 01 and No. 1 of document 02, as one statement over arguments, answers and plans: no table
+-- is named in it.
 -- F is the interval. docs/GUARANTEE.md reads it line by line; specs/Bounds.antt has what lies on each bound and beyond.
 -- Assumes nothing.
 use mathlib.Core.Path.{_≡_}
@@ -10,7 +11,7 @@ use lib.Dec.{ltb, leb}
 use lib.ListN.{length, getD}
 use Rattle.spec_lists.specs.Lists.{one-if, sumOf, anyOf, span}
 use Rattle.spec_lists.specs.All.{All}
-use Rattle.spec_model.specs.Frames.{slotsIn, partOf}
+use Rattle.spec_model.specs.Frames.{slotsIn, headerIn, partOf}
 use Rattle.spec_model.specs.Names.{same, nameInRange}
 use Rattle.spec_model.specs.Requests.{Check, check, refusal, fieldChecks}
 use Rattle.spec_model.specs.Tables.{mostHeld}
@@ -21,7 +22,7 @@ use Rattle.spec_model.specs.declared.Request.{Request}
 use Rattle.spec_rules.specs.Slots.{Run, gives}
 use Rattle.spec_rules.specs.Records.{planWords}
 use Rattle.spec_rules.specs.Settings.{Succeeds, frameOf, opened}
-use Rattle.spec_demand.specs.Assignment.{Assignment, assigned}
+use Rattle.spec_demand.specs.Assignment.{Assignment, assigned, LeavesHeader}
 use Rattle.spec_demand.specs.History.{Call, Offer, Withdraw, Beacon, Seen, seen, history, tableAfter}
 use Rattle.spec_demand.specs.Ledger.{Admission, Ledger, askedBy, begins, isOf, ledgerOf}
 
@@ -96,18 +97,23 @@ Right F l v = RightAnswer F l (v .call) (v .answer)
 abbrev pub GivenOnce : Seen → Type 0
 GivenOnce v = (x : ℕ) → timesGiven x (v .plan) ≤ 1
 
+-- no plan gives a slot of the header
+abbrev pub HeaderFree : Frame → Seen → Type 0
+HeaderFree F v = (x : ℕ) → x < headerIn F → timesGiven x (v .plan) ≡ 0
+
 -- ---- the demand, of what was seen of some calls, vs, and of what is seen of any call that follows them
 -- the answer to an offer that follows
 abbrev pub answerTo : (next : Call → Seen) → Request → ℕ
 answerTo next q = next (Offer q) .answer
 
--- an assignment serves the minimums of all held requests and of the offered one, which counts as accepted
+-- an assignment leaves the headers free, and serves the minimums of all held requests and of the offered one, which counts as accepted
 abbrev pub ServesAll : Frame → List Seen → Request → Assignment → Type 0
-ServesAll F vs q a = All (Serves F a) (begins q ∷ ledgerOf vs .held)
+ServesAll F vs q a = LeavesHeader F a × All (Serves F a) (begins q ∷ ledgerOf vs .held)
 
 pub record Demand3 (F : Frame) (vs : List Seen) (next : Call → Seen) : Type 0 where
   pub kept : All (Kept F) (ledgerOf vs .held ++ ledgerOf vs .past)
   pub once : All GivenOnce vs
+  pub header : All (HeaderFree F) vs
   pub answers : (c : Call) → Right F (ledgerOf vs) (next c)
   -- both directions as facts one can use: an assignment is there, or every assignment is refuted
   pub accepted : (q : Request) → answerTo next q ≡ 0 → (a : Assignment) × ServesAll F vs q a

@@ -1,7 +1,7 @@
--- The numbers of what the calls answer. Document 01, "Where each refusal is checked". Assumes nothing.
+-- The numbers of what the calls answer. Document 01, "Where each refusal is checked"; document 02, No. 1. Assumes nothing.
 use Prim.Native.Nat.{ℕ}
 use Rattle.spec_model.specs.declared.OpenAnswer.{OpenAnswer}
-use Rattle.spec_model.specs.declared.OpenAnswer.the-variants.{Opened, UnitsOutside}
+use Rattle.spec_model.specs.declared.OpenAnswer.the-variants.{Opened, UnitsOutside, HeaderOutside}
 use Rattle.spec_model.specs.declared.HeldAnswer.{HeldAnswer}
 use Rattle.spec_model.specs.declared.HeldAnswer.the-variants.{Held, NotHeld}
 use Rattle.spec_model.specs.declared.BeaconAnswer.{BeaconAnswer}
@@ -10,6 +10,7 @@ use Rattle.spec_model.specs.declared.BeaconAnswer.the-variants.{Planned,
 abbrev pub openNumber : OpenAnswer → ℕ
 openNumber Opened = 0
 openNumber UnitsOutside = 1
+openNumber HeaderOutside = 61
 
 abbrev pub heldNumber : HeldAnswer → ℕ
 heldNumber Held = 0

@@ -1,4 +1,5 @@
-// Units, an offer's fields as they came, and the table that holds requests. Document 01, "Units and one request".
+// Units, an offer's fields as they came, and the table that holds requests. Document 01, "Units and one request"; document 02,
+// No. 1.
 ghost use mathlib.Core.Path.{_≡_};
 ghost use Prim.Native.Nat.{_≤_};
 ghost use Rattle.spec_model.specs.Answers.{offerNumber};
@@ -33,18 +34,20 @@ pub const PLAN_WORDS: usize = RECORD_WORDS * MOST_RECORDS;
 // ---- what an opening is told, any numbers
 pub struct Setting {
     pub units: u32,
+    pub header: u32,
 }
 
 // ---- what an interval is: handed on whole, and read by the names of specs/Frames.antt
 #[repr(C)]
 pub struct Frame {
     pub slots: Slots,
+    pub header: Slots,
 }
 
 pub fn room_in(f: Frame) -> Slots
     ensures { λ r. ⌜ r .0 ≡ roomIn f ⌝ }
 {
-    f.slots
+    Slots(base_numbers::less(f.slots.0, f.header.0))
 }
 
 // ---- the name of a request, told apart and ordered by the functions here alone
@@ -106,6 +109,7 @@ pub enum OfferAnswer {
 pub enum OpenAnswer {
     Opened,
     UnitsOutside,
+    HeaderOutside,
 }
 
 pub enum HeldAnswer {

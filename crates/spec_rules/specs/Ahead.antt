@@ -1,12 +1,13 @@
--- The table after an interval, and looking ahead: step F and "Looking ahead" of document 01. Assumes nothing.
+-- The table after an interval, and looking ahead: step F and "Looking ahead" of document 01; document 02, No. 1. Assumes nothing.
 use Prim.Native.Nat.{ℕ, zero, suc, _+_, _-_}
-use mathlib.Core.Bool.{Bool, true, false, cond, _&&_, _||_}
+use mathlib.Core.Bool.{Bool, true, false, cond, not, _&&_, _||_}
 use mathlib.Core.List.{List, [], map}
 use lib.Dec.{ltb, eqb}
 use Rattle.spec_lists.specs.Lists.{keep, mostOf, anyOf}
 use Rattle.spec_model.specs.Entries.{freeEntry, isHeld, isKind, isPiece, asks}
 use Rattle.spec_model.specs.declared.Frame.{Frame}
 use Rattle.spec_model.specs.declared.Entry.{Entry}
+use Rattle.spec_rules.specs.Header.{headerTest}
 use Rattle.spec_rules.specs.Share.{Grant, slotsFor, overfull, stepB}
 
 -- F. the entry with another life left, owed, given and intervals left
@@ -49,13 +50,13 @@ stepF bs cs es = map (λ (e : Entry). settled (passed (slotsFor (e .name) bs) (s
 abbrev pub misses : List Grant → Entry → Bool
 misses bs e = isPiece e && (eqb (e .left .0) 1 && ltb (slotsFor (e .name) bs) (e .owed .0))
 
--- in none of n intervals is E negative, or a deadline missed
+-- in none of n intervals is E negative, or the header test failed with minimums, or a deadline missed
 unfoldable pub goesWell : (n : ℕ) → Frame → List Entry → Bool
 goesWell zero F es = true
 goesWell (suc n) F es =
     let bs = stepB F es in
     let r = goesWell n F (keep isHeld (stepF bs [] es)) in
-    cond (overfull F es || anyOf (misses bs) es) false r
+    cond (overfull F es || (not (headerTest F asks es) || anyOf (misses bs) es)) false r
 
 -- until every life is used up
 unfoldable pub fitsAhead : Frame → List Entry → Bool

@@ -1,4 +1,4 @@
--- The worked cases 1 to 9 of document 01, "Tested by hand", and after them two of our own: one list, and one theorem. Where a case leaves
+-- The worked cases 1 to 9 of document 01, "Tested by hand", and after them three of our own: one list, and one theorem. Where a case leaves
 -- a field open, docs/DECISIONS.md says what was chosen. Assumes nothing.
 use Prim.Native.Nat.{ℕ, _*_}
 use mathlib.Core.Path.{_≡_, refl}
@@ -13,7 +13,8 @@ use Rattle.spec_model.specs.Names.{same, lower, nameInRange}
 use Rattle.spec_model.specs.ByNumbers.{stream, setting, request}
 use Rattle.spec_model.specs.Entries.{entryOf}
 use Rattle.spec_model.specs.declared.Table.{Table}
-use Rattle.spec_rules.specs.Share.{Grant, loadOf, load, slotsFor, order, take-turns, stepB, remains, weight, extra, shareAmong, everyone, stepC}
+use Rattle.spec_rules.specs.Share.{Grant, loadOf, load, slotsFor, order, take-turns, stepB, remains, weight, extra, shareAmong, extrasPass, takesPart, stepC}
+use Rattle.spec_rules.specs.Header.{endsOf, dueBy, headerTest}
 use Rattle.spec_rules.specs.Slots.{jobsFrom, tieOrder, jobs, choose, slotsFrom, stepD, prepend, runsFrom, stepE}
 use Rattle.spec_rules.specs.Ahead.{passed, renewed, settled, stepF, goesWell, fitsAhead}
 use Rattle.spec_model.specs.Tables.{heldOf}
@@ -24,7 +25,7 @@ use Rattle.spec_rules.specs.Reading.{startsOf, rises, before, windowAnsw
 
 -- a call, or a look at the figures of the next step C: L, W, then each request's stream and extra
 pub data Ask : Type 0 where
-  Open : (units : ℕ) → Ask
+  Open : (units header : ℕ) → Ask
   Offer : (stream kind period least most life : ℕ) → Ask
   Withdraw : (stream : ℕ) → Ask
   Tick : Ask
@@ -59,7 +60,7 @@ afterTick b =
     }
 
 abbrev pub reply : State → Ask → Reply
-reply s (Open u) = record { answer = openAnswer (setting u); shown = []; next = on s (opened (setting u)) }
+reply s (Open u h) = record { answer = openAnswer (setting u h); shown = []; next = on s (opened (setting u h)) }
 reply s (Offer i k p a b l) =
     let q = request i k p a b l in
     record { answer = offerAnswer (s .table) q; shown = []; next = on s (offered (s .table) q) }
@@ -69,7 +70,7 @@ reply s Tick = afterTick (beacon (s .table) (s .words))
 reply s Figures =
     let F = s .table .frame in
     let es = heldOf (s .table) in
-    record { answer = 0; shown = remains F es ∷ weight everyone (stepB F es) es ∷ numbers (stepC F es); next = s }
+    record { answer = 0; shown = remains F es ∷ weight (takesPart F es) (stepB F es) es ∷ numbers (stepC F es); next = s }
 reply s (Window f u) =
     record { answer = windowAnswer (s .words) (s .count) f u; shown = windowPart (s .words) (s .count) f u; next = s }
 
@@ -94,7 +95,7 @@ plays s (l ∷ ls) =
 -- ---- the cases; each begins with an opening
 abbrev pub offers1 : List Line
 offers1 =
-    answers (Open 1) 0 ∷ answers (Offer 5 1 2 100 300 4) 0 ∷ answers (Offer 7 2 2 600 1000 4) 0 ∷ answers (Offer 9 3 1 300 0 1) 0 ∷ []
+    answers (Open 1 0) 0 ∷ answers (Offer 5 1 2 100 300 4) 0 ∷ answers (Offer 7 2 2 600 1000 4) 0 ∷ answers (Offer 9 3 1 300 0 1) 0 ∷ []
 
 abbrev pub case1 : List Line
 case1 =
@@ -120,7 +121,7 @@ case4 =
 
 abbrev pub case5 : List Line
 case5 =
-    answers (Open 1) 0
+    answers (Open 1 0) 0
     ∷ answers (Offer 1 2 2 1024 1024 2) 0
     ∷ answers (Offer 2 2 2 1024 1024 2) 0
     ∷ shows Tick (1 ∷ 0 ∷ 0 ∷ 1024 ∷ [])
@@ -129,14 +130,14 @@ case5 =
     ∷ []
 
 abbrev pub case6 : List Line
-case6 = answers (Open 1) 0 ∷ answers (Offer 1 1 2 512 512 1) 0 ∷ answers (Offer 2 1 2 1 1 1) 17 ∷ []
+case6 = answers (Open 1 0) 0 ∷ answers (Offer 1 1 2 512 512 1) 0 ∷ answers (Offer 2 1 2 1 1 1) 17 ∷ []
 
 abbrev pub case7 : List Line
 case7 =
-    answers (Open 1) 0 ∷ answers (Offer 1 1 3 1 1 1) 13 ∷ answers (Open 3) 0 ∷ answers (Offer 1 1 3 1 1 1) 0 ∷ []
+    answers (Open 1 0) 0 ∷ answers (Offer 1 1 3 1 1 1) 13 ∷ answers (Open 3 0) 0 ∷ answers (Offer 1 1 3 1 1 1) 0 ∷ []
 
 abbrev pub case8 : List Line
-case8 = answers (Open 1) 0 ∷ answers (Offer 1 2 2 1 1 3) 15 ∷ answers (Offer 1 2 2 1 1 4) 0 ∷ []
+case8 = answers (Open 1 0) 0 ∷ answers (Offer 1 2 2 1 1 3) 15 ∷ answers (Offer 1 2 2 1 1 4) 0 ∷ []
 
 abbrev pub case9 : List Line
 case9 =
@@ -150,7 +151,7 @@ case9 =
 -- jobs of kind 1 due at once: the lower stream number goes first, though it was offered later
 abbrev pub tiesOfKind1 : List Line
 tiesOfKind1 =
-    answers (Open 1) 0
+    answers (Open 1 0) 0
     ∷ answers (Offer 8 1 2 200 200 1) 0
     ∷ answers (Offer 6 1 2 100 100 1) 0
     ∷ shows Tick (6 ∷ 0 ∷ 0 ∷ 100 ∷ 8 ∷ 0 ∷ 100 ∷ 200 ∷ 6 ∷ 1 ∷ 512 ∷ 100 ∷ 8 ∷ 1 ∷ 612 ∷ 200 ∷ [])
@@ -159,21 +160,52 @@ tiesOfKind1 =
 -- as many intervals left, and an interval too short for both: kind 2 goes before 3, though the transfer has the lower stream number
 abbrev pub kind2First : List Line
 kind2First =
-    answers (Open 1) 0
+    answers (Open 1 0) 0
     ∷ answers (Offer 2 3 2 700 0 2) 0
     ∷ answers (Offer 4 2 2 800 800 2) 0
     ∷ shows Tick (4 ∷ 0 ∷ 0 ∷ 800 ∷ 2 ∷ 0 ∷ 800 ∷ 224 ∷ [])
     ∷ []
 
+-- A header: 1 goes before 61, which is due from B on. Of 1,024 slots 400 are the header's; by slot 512 there is room for 112, so stream 5 fits
+-- with 100, another with 13 does not, and no period of 256 slots does, though E is 424. With extras by W = 1,700 stream 5 would have 176 by slot
+-- 512: it gets none, and stream 7 shares L = 324 alone. With a header of 200 both have their parts of L = 524. At the edges: two time
+-- units may have a header of one; behind one of 100, a job of 101 and two of 28 are a slot too many for the 156 up to slot 256, in their last
+-- interval too; behind one of 400, extras of 12 just fill the 112 up to slot 512.
+abbrev pub headed : List Line
+headed =
+    answers (Open 0 2000) 1
+    ∷ answers (Open 1 1024) 61
+    ∷ answers (Open 1 400) 0
+    ∷ answers (Offer 5 1 2 100 500 4) 0
+    ∷ answers (Offer 7 2 1 100 1000 4) 0
+    ∷ answers (Offer 6 1 4 10 10 4) 17
+    ∷ answers (Offer 8 1 2 13 13 4) 17
+    ∷ shows Figures (324 ∷ 900 ∷ 5 ∷ 0 ∷ 7 ∷ 324 ∷ [])
+    ∷ shows Tick (5 ∷ 0 ∷ 400 ∷ 100 ∷ 7 ∷ 0 ∷ 500 ∷ 12 ∷ 5 ∷ 1 ∷ 512 ∷ 100 ∷ 7 ∷ 0 ∷ 612 ∷ 412 ∷ [])
+    ∷ answers (Offer 8 1 2 12 12 4) 0
+    ∷ answers (Open 1 200) 0
+    ∷ answers (Offer 5 1 2 100 500 4) 0
+    ∷ answers (Offer 7 2 1 100 1000 4) 0
+    ∷ shows Figures (524 ∷ 1700 ∷ 5 ∷ 123 ∷ 7 ∷ 277 ∷ [])
+    ∷ answers (Open 2 1024) 0
+    ∷ answers (Open 1 100) 0
+    ∷ answers (Offer 1 1 4 101 101 1) 0
+    ∷ answers (Offer 2 1 8 28 28 1) 17
+    ∷ answers (Offer 2 1 8 27 27 1) 0
+    ∷ answers (Open 1 400) 0
+    ∷ answers (Offer 5 1 2 100 112 1) 0
+    ∷ shows Figures (424 ∷ 24 ∷ 5 ∷ 12 ∷ [])
+    ∷ []
+
 abbrev pub cases : List Line
-cases = case1 ++ cases23 ++ case4 ++ case5 ++ case6 ++ case7 ++ case8 ++ case9 ++ tiesOfKind1 ++ kind2First
+cases = case1 ++ cases23 ++ case4 ++ case5 ++ case6 ++ case7 ++ case8 ++ case9 ++ tiesOfKind1 ++ kind2First ++ headed
 
 abbrev pub start : State
-start = record { table = opened (setting 1); words = replicate planWords 0; count = 0 }
+start = record { table = opened (setting 1 0); words = replicate planWords 0; count = 0 }
 
 pub cases-right : plays start cases ≡ true
 unfolding refusal fieldChecks entryOf roomIn same lower nameInRange
-    loadOf load slotsFor order take-turns stepB remains weight extra shareAmong stepC
+    endsOf dueBy headerTest loadOf load slotsFor order take-turns stepB remains weight extra shareAmong extrasPass stepC
     jobsFrom tieOrder jobs choose slotsFrom stepD prepend runsFrom stepE
     passed renewed settled stepF goesWell fitsAhead
     openAnswer frameOf opened offerAnswer placed offered heldAnswer withdrawn wordsOfRun wordsOf recordAt recordsOf planOf advanced beacon

@@ -1,3 +1,4 @@
+pub mod Header
 pub mod Share
 pub mod Slots
 pub mod Ahead

@@ -1,7 +1,7 @@
--- What each request gets of an interval: steps A to C of document 01, "One beacon".
+-- What each request gets of an interval: steps A to C of document 01, "One beacon"; document 02, No. 1.
 -- F is the interval, es are the entries held. Assumes nothing.
-use Prim.Native.Nat.{ℕ, _*_, _-_, _/_, min}
-use mathlib.Core.Bool.{Bool, true, cond, _&&_, _||_}
+use Prim.Native.Nat.{ℕ, _+_, _*_, _-_, _/_, min}
+use mathlib.Core.Bool.{Bool, true, cond, not, _&&_, _||_}
 use mathlib.Core.List.{List, [], _∷_, map}
 use lib.Dec.{ltb, leb, eqb}
 use Rattle.spec_lists.specs.Lists.{keep, sumOf, sort}
@@ -11,6 +11,7 @@ use Rattle.spec_model.specs.Entries.{isKind, isPiece, asks}
 use Rattle.spec_model.specs.declared.Frame.{Frame}
 use Rattle.spec_model.specs.declared.Name.{Name}
 use Rattle.spec_model.specs.declared.Entry.{Entry}
+use Rattle.spec_rules.specs.Header.{headerTest}
 
 -- A. capacity: what an entry takes of every interval, m times min for kind 1
 unfoldable pub loadOf : Entry → ℕ
@@ -88,9 +89,19 @@ shareAmong takesPart L bs es =
     let W = weight takesPart bs es in
     map (λ (e : Entry). grant (e .name) (extra L W (shareOf takesPart bs e))) es
 
--- every entry takes part
+-- ---- who takes part: everyone, where kind 1 passes the header test with what it would get; else all but kind 1
 abbrev pub everyone : Entry → Bool
 everyone e = true
 
+-- min + extra
+abbrev pub needWith : (cs : List Grant) → Entry → ℕ
+needWith cs e = asks e + slotsFor (e .name) cs
+
+unfoldable pub extrasPass : Frame → List Entry → Bool
+extrasPass F es = headerTest F (needWith (shareAmong everyone (remains F es) (stepB F es) es)) es
+
+abbrev pub takesPart : Frame → List Entry → Entry → Bool
+takesPart F es e = extrasPass F es || not (isKind 1 e)
+
 unfoldable pub stepC : Frame → List Entry → List Grant
-stepC F es = shareAmong everyone (remains F es) (stepB F es) es
+stepC F es = shareAmong (takesPart F es) (remains F es) (stepB F es) es

@@ -1,17 +1,18 @@
--- The slots of an interval and the plan: steps D and E of document 01, "One beacon". Assumes nothing.
+-- The slots of an interval and the plan: steps D and E of document 01, "One beacon"; document 02, No. 1. Assumes nothing.
 use Prim.Native.Nat.{ℕ, zero, suc, _+_, _*_, _-_}
 use mathlib.Core.Bool.{Bool, false, cond, _&&_}
 use mathlib.Core.List.{List, [], _∷_, _++_, map}
 use mathlib.Core.Option.{Option, none, some}
 use lib.Dec.{ltb, leb, eqb}
+use lib.ListN.{replicate}
 use Rattle.spec_lists.specs.Lists.{keep, sort, concatMap}
-use Rattle.spec_model.specs.Frames.{slotsIn, partOf}
+use Rattle.spec_model.specs.Frames.{slotsIn, headerIn, roomIn, partOf}
 use Rattle.spec_model.specs.Names.{same, lower}
-use Rattle.spec_model.specs.Entries.{isKind, asks}
+use Rattle.spec_model.specs.Entries.{isKind}
 use Rattle.spec_model.specs.declared.Frame.{Frame}
 use Rattle.spec_model.specs.declared.Name.{Name}
 use Rattle.spec_model.specs.declared.Entry.{Entry}
-use Rattle.spec_rules.specs.Share.{Grant, slotsFor, order, jobCount, stepB, stepC}
+use Rattle.spec_rules.specs.Share.{Grant, slotsFor, order, jobCount, needWith, stepB, stepC}
 
 -- D. a job of the interval
 pub record Job : Type 0 where
@@ -44,7 +45,7 @@ jobLength F e = cond (isKind 1 e) (partOf F (e .parts)) (slotsIn F)
 
 -- min + extra for kind 1; the step B and C slots of a piece
 abbrev pub jobNeed : (bs cs : List Grant) → Entry → ℕ
-jobNeed bs cs e = cond (isKind 1 e) (asks e + slotsFor (e .name) cs) (slotsFor (e .name) bs + slotsFor (e .name) cs)
+jobNeed bs cs e = cond (isKind 1 e) (needWith cs e) (slotsFor (e .name) bs + slotsFor (e .name) cs)
 
 abbrev pub jobsOf : Frame → (bs cs : List Grant) → Entry → List Job
 jobsOf F bs cs e = jobsFrom (jobCount e) (e .name) (jobLength F e) (jobNeed bs cs e) 0
@@ -103,8 +104,9 @@ unfoldable pub slotsFrom : (n s : ℕ) → List Job → List Slot
 slotsFrom zero s js = []
 slotsFrom (suc n) s js = let c = slotOf (choose s js) in c ∷ slotsFrom n (suc s) (map (charge c) js)
 
+-- those of the header are idle, and a job that is released among them waits
 unfoldable pub stepD : Frame → List Entry → List Slot
-stepD F es = slotsFrom (slotsIn F) 0 (jobs F es)
+stepD F es = replicate (headerIn F) none ++ slotsFrom (roomIn F) (headerIn F) (jobs F es)
 
 -- E. one record for each longest run of slots of one job, by start
 pub record Run : Type 0 where

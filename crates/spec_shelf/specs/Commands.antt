@@ -5,13 +5,13 @@ use mathlib.Core.List.{List, [], _∷_}
 use lib.Dec.{leb}
 use lib.ListN.{length, getD}
 use Rattle.spec_lists.specs.Lists.{sameList}
-use Rattle.spec_model.specs.ByNumbers.{stream}
+use Rattle.spec_model.specs.ByNumbers.{stream, setting}
 use Rattle.spec_model.specs.declared.Name.{Name}
 use Rattle.spec_model.specs.declared.Setting.{Setting}
 use Rattle.spec_model.specs.declared.Request.{Request}
 use Rattle.spec_text.specs.Rows.{rowMost}
 use Rattle.spec_text.specs.declared.Field.{Field}
-use Rattle.spec_text.specs.declared.Field.the-variants.{Needed, Empty}
+use Rattle.spec_text.specs.declared.Field.the-variants.{Needed, MayBeEmpty, Empty}
 use Rattle.spec_text.specs.Fields.{fieldsOf, hasFields, numbersOf}
 use Rattle.spec_shelf.specs.declared.Command.{Command}
 use Rattle.spec_shelf.specs.declared.Command.the-variants.{Open, Offer, Withdraw, Beacon, OtherForm}
@@ -30,9 +30,9 @@ abbrev pub beaconVerb : List ℕ
 beaconVerb = 98 ∷ 101 ∷ 97 ∷ 99 ∷ 111 ∷ 110 ∷ []
 
 -- ---- what each verb asks of the fields after it: stream, kind, period, min, max, life
--- the time units stand in the first of them
+-- the time units stand in the first of them, the header in the second, empty for 0
 abbrev pub openForm : List Field
-openForm = Needed ∷ Empty ∷ Empty ∷ Empty ∷ Empty ∷ Empty ∷ []
+openForm = Needed ∷ MayBeEmpty 0 ∷ Empty ∷ Empty ∷ Empty ∷ Empty ∷ []
 
 abbrev pub offerForm : List Field
 offerForm = Needed ∷ Needed ∷ Needed ∷ Needed ∷ Needed ∷ Needed ∷ []
@@ -45,7 +45,7 @@ beaconForm = Empty ∷ Empty ∷ Empty ∷ Empty ∷ Empty ∷ Empty ∷ []
 
 -- ---- what the numbers of a row say
 abbrev pub settingFrom : List ℕ → Setting
-settingFrom ns = record { units = getD ns 0 0 }
+settingFrom ns = setting (getD ns 0 0) (getD ns 1 0)
 
 abbrev pub nameFrom : List ℕ → Name
 nameFrom ns = stream (getD ns 0 0)

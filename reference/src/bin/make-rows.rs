@@ -1,7 +1,7 @@
 //! Writes made-up input rows for the planner programs.
 //!
-//! `make-rows NAME SEED [SIZE]` prints one list; `make-rows all SEED FOLDER` writes every list into a folder,
-//! as NAME.in. The same arguments always give the same bytes.
+//! `make-rows NAME SEED [SIZE]` prints one list; `make-rows all SEED FOLDER` writes every list that is stored
+//! into a folder, as NAME.in. The same arguments always give the same bytes.
 
 use std::io::{self, Write};
 use std::path::Path;
@@ -24,7 +24,7 @@ fn main() -> ExitCode {
 
 fn work(arguments: &[String]) -> Result<(), String> {
     let [name, seed, more @ ..] = arguments else {
-        return Err(format!("{USAGE}\nnames: {}", lists::NAMES.join(" ")));
+        return Err(format!("{USAGE}\nnames: {}", names()));
     };
     let seed: u64 = seed.parse().map_err(|_| format!("the seed is not a number: {seed}"))?;
     match (name.as_str(), more) {
@@ -44,9 +44,13 @@ fn work(arguments: &[String]) -> Result<(), String> {
     }
 }
 
+fn names() -> String {
+    [&lists::NAMES[..], &lists::HEADED].concat().join(" ")
+}
+
 fn print(name: &str, seed: u64, size: usize) -> Result<(), String> {
-    let rows = lists::make(name, seed, size)
-        .ok_or_else(|| format!("no list named {name}; names: {}", lists::NAMES.join(" ")))?;
+    let rows =
+        lists::make(name, seed, size).ok_or_else(|| format!("no list named {name}; names: {}", names()))?;
     let mut output = io::stdout().lock();
     output.write_all(&rows).and_then(|()| output.flush()).map_err(|error| error.to_string())
 }

@@ -1,10 +1,12 @@
 //! Shared by the tests: a watcher that knows only calls, answers and plans, and exact tests of whether a set
-//! of demands can be met at all. Nothing here uses the planner's own arithmetic.
+//! of demands can be met at all. Nothing here uses the planner's own arithmetic, but for
+//! [`fits_but_for_the_test`], which is to say why the planner refuses.
 
 #![allow(dead_code)]
 
 use reference::random::Random;
-use reference::{Offer, PLAN_WORDS, Record, Table};
+use reference::steps::{Share, capacity, count_down, serve, turn_over};
+use reference::{Entry, Intervals, Offer, PLAN_WORDS, Record, Slots, Table};
 
 /// An admission as the list of calls shows it.
 #[derive(Clone, Debug)]
@@ -28,13 +30,14 @@ pub struct Need {
 #[derive(Clone, Debug)]
 pub struct Watch {
     pub interval: u64,
+    pub header: u64,
     pub admissions: Vec<Admission>,
     pub completed: u64,
 }
 
 impl Watch {
-    pub fn new(interval: u64) -> Self {
-        Watch { interval, admissions: Vec::new(), completed: 0 }
+    pub fn new(interval: u64, header: u64) -> Self {
+        Watch { interval, header, admissions: Vec::new(), completed: 0 }
     }
 
     pub fn accepted(&mut self, offer: &Offer) {
@@ -82,12 +85,14 @@ impl Watch {
         self.admissions.retain(|admission| admission.seen < u64::from(admission.offer.life));
     }
 
-    /// Records rise, do not overlap, are as long as can be, stay in the interval, and belong to held requests.
+    /// Records rise, do not overlap, are as long as can be, stay in the interval and out of its header, and
+    /// belong to held requests.
     fn check_shape(&self, records: &[Record]) {
         assert!(records.len() <= 1_024);
         let mut before: Option<Record> = None;
         for &record in records {
             assert!(record.length.0 >= 1);
+            assert!(record.start.0 >= self.header, "a record in the header");
             assert!(record.start.0 + record.length.0 <= self.interval);
             let admission = self.admissions.iter().find(|a| a.offer.stream == record.stream);
             let offer = admission.expect("a record for a stream that is not held").offer;
@@ -117,10 +122,7 @@ impl Watch {
             let coming = u64::from(offer.life) - seen;
             let (period, min) = (u64::from(offer.period), u64::from(offer.min));
             if offer.kind == 1 {
-                let part = b / period;
-                for release in (0..coming * period).map(|place| place * part) {
-                    needs.push(Need { release, due: release + part, amount: min });
-                }
+                needs.extend(parts_of(&offer, b, coming));
             } else {
                 needs.extend(whole_periods(coming, period, seen, min, had).into_iter().map(|need| Need {
                     release: need.release * b,
@@ -139,7 +141,7 @@ impl Watch {
     }
 
     /// Whether all needs can be met, by counting over every window of whole intervals. Kind 1 is taken off the
-    /// capacity of each interval of its life.
+    /// capacity of each interval of its life, and has to find room in the interval by itself.
     pub fn can_serve_by_intervals(&self, offered: &Offer) -> bool {
         let all = self.with(offered);
         let coming = |a: &Admission| u64::from(a.offer.life) - a.seen;
@@ -152,8 +154,21 @@ impl Watch {
                 .filter(|a| a.offer.kind == 1 && coming(a) > i as u64)
                 .map(|a| i128::from(a.offer.period) * i128::from(a.offer.min))
                 .sum();
-            let capacity = i128::from(self.interval) - taken;
+            let capacity = i128::from(self.interval - self.header) - taken;
             if capacity < 0 {
+                return false;
+            }
+            // Kind 1 requests only leave: where nobody did, the interval is like the one before.
+            let leaves = |a: &Admission| a.offer.kind == 1 && coming(a) == i as u64;
+            if i > 0 && !all.iter().any(leaves) {
+                before[i + 1] = before[i] + capacity;
+                continue;
+            }
+            let fractions = all.iter().filter(|a| a.offer.kind == 1 && coming(a) > i as u64);
+            let mut jobs: Vec<Need> = fractions.flat_map(|a| parts_of(&a.offer, self.interval, 1)).collect();
+            if !windows_have_room(&mut jobs, |from, until| {
+                free_slots(self.interval, self.header, from, until)
+            }) {
                 return false;
             }
             before[i + 1] = before[i] + capacity;
@@ -167,6 +182,21 @@ impl Watch {
             .collect();
         windows_have_room(&mut needs, |from, until| before[until as usize] - before[from as usize])
     }
+}
+
+/// The periods of a kind 1 request in so many coming intervals, in slots from now on.
+fn parts_of(offer: &Offer, interval: u64, coming: u64) -> Vec<Need> {
+    let (period, amount) = (u64::from(offer.period), u64::from(offer.min));
+    let part = interval / period;
+    let need = |release| Need { release, due: release + part, amount };
+    (0..coming * period).map(|place| need(place * part)).collect()
+}
+
+/// The slots from `from` up to just before `until` that lie in no header.
+fn free_slots(interval: u64, header: u64, from: u64, until: u64) -> i128 {
+    // Up to a slot: the headers of the intervals before its own, and what lies of its own before it.
+    let headers = |slot: u64| i128::from(slot / interval * header + header.min(slot % interval));
+    i128::from(until) - i128::from(from) - (headers(until) - headers(from))
 }
 
 /// The coming periods of a kind 2 or 3 request, in intervals from now on.
@@ -202,14 +232,15 @@ fn windows_have_room(needs: &mut [Need], room: impl Fn(u64, u64) -> i128) -> boo
     })
 }
 
-/// Whether all needs can be met on single slots, by counting over every window.
-pub fn can_serve_by_windows(needs: &[Need]) -> bool {
-    windows_have_room(&mut needs.to_vec(), |from, until| i128::from(until - from))
+/// Whether all needs can be met on single slots outside the headers, by counting over every window.
+pub fn can_serve_by_windows(needs: &[Need], interval: u64, header: u64) -> bool {
+    windows_have_room(&mut needs.to_vec(), |from, until| free_slots(interval, header, from, until))
 }
 
-/// Whether all needs can be met on single slots, by looking for a maximum flow: each need sends its amount,
-/// one at a time, along a path to a free slot, pushing others aside where that helps.
-pub fn can_serve_by_flow(needs: &[Need]) -> bool {
+/// Whether all needs can be met on single slots outside the headers, by looking for a maximum flow: each need
+/// sends its amount, one at a time, along a path to a free slot, pushing others aside where that helps.
+pub fn can_serve_by_flow(needs: &[Need], interval: u64, header: u64) -> bool {
+    let in_header = |slot: usize| (slot as u64) % interval < header;
     let slots = needs.iter().map(|need| need.due).max().unwrap_or(0) as usize;
     if needs.iter().map(|need| u128::from(need.amount)).sum::<u128>() > slots as u128 {
         return false;
@@ -217,7 +248,7 @@ pub fn can_serve_by_flow(needs: &[Need]) -> bool {
     let mut owner: Vec<Option<usize>> = vec![None; slots];
     for (i, need) in needs.iter().enumerate() {
         for _ in 0..need.amount {
-            if !push(needs, &mut owner, i) {
+            if !push(needs, &mut owner, &in_header, i) {
                 return false;
             }
         }
@@ -226,14 +257,19 @@ pub fn can_serve_by_flow(needs: &[Need]) -> bool {
 }
 
 /// Breadth-first search for a path from a need over slots and their owners to a slot nobody has.
-fn push(needs: &[Need], owner: &mut [Option<usize>], from: usize) -> bool {
+fn push(
+    needs: &[Need],
+    owner: &mut [Option<usize>],
+    in_header: &impl Fn(usize) -> bool,
+    from: usize,
+) -> bool {
     // Which need came to a slot, and through which of its own slots a need was found.
     let mut taker: Vec<Option<usize>> = vec![None; owner.len()];
     let mut through: Vec<Option<usize>> = vec![None; needs.len()];
     let mut queue = std::collections::VecDeque::from([from]);
     while let Some(need) = queue.pop_front() {
         for slot in needs[need].release as usize..needs[need].due as usize {
-            if taker[slot].is_some() {
+            if taker[slot].is_some() || in_header(slot) {
                 continue;
             }
             taker[slot] = Some(need);
@@ -274,6 +310,16 @@ pub fn records(memory: &[u32], count: usize) -> Vec<Record> {
     memory[..4 * count].chunks(4).map(|w| Record::from_words([w[0], w[1], w[2], w[3]])).collect()
 }
 
+/// A header for intervals of so many slots: none, short or of any length that leaves a slot.
+pub fn header_below(random: &mut Random, interval: u64) -> u64 {
+    match random.between(0, 9) {
+        0..=3 => 0,
+        4..=6 => random.between(0, interval / 16),
+        7..=8 => random.between(0, interval / 3),
+        _ => random.between(0, interval - 1),
+    }
+}
+
 /// How large and how long random requests are.
 #[derive(Clone, Copy, Debug)]
 pub struct Style {
@@ -311,4 +357,38 @@ pub fn random_offer(random: &mut Random, interval: u64, style: Style) -> Offer {
             Offer { stream, kind: 3, period: deadline, min, max: 0, life: deadline }
         }
     }
+}
+
+/// Looking ahead with the planner's own steps A, B and F, but without the header test.
+pub fn fits_but_for_the_test(interval: Slots, header: Slots, entries: &[Entry]) -> bool {
+    let mut entries = entries.to_vec();
+    while !entries.is_empty() {
+        let Some(capacity) = capacity(interval, header, &entries) else { return false };
+        let mut shares = vec![Share::default(); entries.len()];
+        serve(&entries, capacity, &mut shares);
+        count_down(&mut entries, &shares);
+        let missed = |e: &Entry| e.turn().is_some() && e.left == Intervals::NONE && e.owed > Slots::NONE;
+        if entries.iter().any(missed) {
+            return false;
+        }
+        turn_over(&mut entries);
+    }
+    true
+}
+
+/// The fewest slots that the kind 1 jobs due by an end of a period leave between the header and that end,
+/// with minimums. Nothing where no kind 1 request is held.
+pub fn least_room(table: &Table) -> Option<i128> {
+    let held: Vec<Offer> = table.held().iter().map(|entry| entry.request.to_offer()).collect();
+    let fractions: Vec<&Offer> = held.iter().filter(|offer| offer.kind == 1).collect();
+    let (b, h) = (i128::from(table.interval().0), i128::from(table.header().0));
+    let ends = fractions.iter().flat_map(|o| {
+        let m = i128::from(o.period);
+        (1..=m).map(move |k| k * b / m)
+    });
+    ends.map(|t| {
+        let due: i128 = fractions.iter().map(|o| t * i128::from(o.period) / b * i128::from(o.min)).sum();
+        t - h - due
+    })
+    .min()
 }

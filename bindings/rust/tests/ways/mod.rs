@@ -14,7 +14,7 @@ use reference::Offer;
 /// beacon, with other words at some places.
 #[derive(Clone, Debug)]
 pub enum Call {
-    Open { units: u32 },
+    Open { units: u32, header: u32 },
     Offer(Offer),
     Withdraw { stream: u32 },
     Enquire { stream: u32 },
@@ -39,7 +39,7 @@ pub type EntryFields = [u32; 11];
 
 /// A planner in this process. No call but an opening comes before one that answers 0.
 pub trait Planner {
-    fn open(&mut self, units: u32) -> u32;
+    fn open(&mut self, units: u32, header: u32) -> u32;
     fn offer(&mut self, offer: &Offer) -> u32;
     fn withdraw(&mut self, stream: u32) -> u32;
     fn enquire(&self, stream: u32) -> (u32, EntryFields);
@@ -61,7 +61,7 @@ impl<P: Planner> Host<P> {
     pub fn make(&mut self, call: &Call) -> Given {
         let answered = |answer| Given { answer, ..Given::default() };
         match call {
-            Call::Open { units } => answered(self.planner.open(*units)),
+            Call::Open { units, header } => answered(self.planner.open(*units, *header)),
             Call::Offer(offer) => answered(self.planner.offer(offer)),
             Call::Withdraw { stream } => answered(self.planner.withdraw(*stream)),
             Call::Enquire { stream } => {

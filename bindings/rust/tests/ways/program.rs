@@ -36,7 +36,7 @@ pub fn make_all(calls: &[Call]) -> Vec<Given> {
 
 fn line(call: &Call) -> String {
     match call {
-        Call::Open { units } => format!("open {units}\n"),
+        Call::Open { units, header } => format!("open {units} {header}\n"),
         Call::Offer(Offer { stream, kind, period, min, max, life }) => {
             format!("offer {stream} {kind} {period} {min} {max} {life}\n")
         }

@@ -26,8 +26,8 @@ fn fields(entry: &EntryWords) -> EntryFields {
 }
 
 impl Planner for Second {
-    fn open(&mut self, units: u32) -> u32 {
-        let opened = Table::open(units);
+    fn open(&mut self, units: u32, header: u32) -> u32 {
+        let opened = Table::open(units, header);
         let number = answer(&opened);
         self.0 = opened.ok().or(self.0.take());
         number

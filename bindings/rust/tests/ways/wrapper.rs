@@ -24,10 +24,10 @@ fn fields(entry: &Entry) -> EntryFields {
 }
 
 impl Planner for Wrapper {
-    fn open(&mut self, units: u32) -> u32 {
+    fn open(&mut self, units: u32, header: u32) -> u32 {
         let opened = match &mut self.0 {
-            Some(shelf) => shelf.reopen(units),
-            None => Shelf::open(units).map(|shelf| self.0 = Some(shelf)),
+            Some(shelf) => shelf.reopen(units, header),
+            None => Shelf::open(units, header).map(|shelf| self.0 = Some(shelf)),
         };
         number(&opened)
     }

@@ -7,7 +7,7 @@ use native.Mathlib.Omega.{arith}
 use borrow.Author.Needs.{needs}
 use Rattle.spec_lists.specs.Lists.{sumOf}
 use Rattle.spec_model.specs.declared.Table.{Table}
-use Rattle.law_model.specs.Frames.{mostSlots, room-slots}
+use Rattle.law_model.specs.Frames.{mostSlots, room-most}
 use Rattle.law_steps.specs.Closed.{slots-most}
 use Rattle.ahead_figures.specs.Columns.{Columns, columns}
 use Rattle.ahead_figures.specs.Figures.{longest}
@@ -90,7 +90,7 @@ mul-capacity c =
     let k = known l in
     let few : l .loop .at .0 - l .loop .time .0 ≤ longest = omega (arith, soon i .1) in
     let slots : start l .args .room .0 - l .loop .load ≤ mostSlots =
-    omega (arith, room-slots (k .table .frame), slots-most (k .table) (k .tidy), k .frame) in
+    omega (arith, room-most (k .table .frame), slots-most (k .table) (k .tidy), k .frame) in
     omega (arith, mul-le-mul few slots)
 
 pay-due-requires : tie.Need-pay-due-requires Inv-loop μ-loop

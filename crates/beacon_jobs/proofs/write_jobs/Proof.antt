@@ -7,10 +7,11 @@ use denote.Ref.{now}
 use Rattle.spec_lists.specs.All.{All}
 use Rattle.base_lists.specs.All.{all-at}
 use Rattle.spec_model.specs.Entries.{freeEntry}
-use Rattle.spec_model.specs.Frames.{slotsIn}
+use Rattle.spec_model.specs.Frames.{slotsIn, headerIn}
 use Rattle.spec_model.specs.Tables.{places}
 use Rattle.spec_model.specs.declared.Entry.{Entry}
 use Rattle.spec_rules.specs.Records.{recordWords, wordsOf}
+use Rattle.law_model.specs.Frames.{header-less}
 use Rattle.spec_rules.specs.Calls.{planOf}
 use Rattle.law_steps.specs.Ranks.{rank, rankMost}
 use Rattle.beacon_share.specs.Shares.{grantAt, sharingOf, grantOf, grant-found}
@@ -182,7 +183,7 @@ made c =
 planned : (c : tie.After-loop Inv-loop μ-loop) → (let l = c .before .loop in
     let t = start (by (c .before)) .args .t1 in
     let nss = needRows (l .counts) (l .each) in
-    Rows (slotsIn (t .frame)) (l .names) (l .lengths) nss × (rowPlan (slotsIn (t .frame)) (l .names) (l .lengths) nss ≡ planOf t))
+    Rows (slotsIn (t .frame)) (l .names) (l .lengths) nss × (rowPlan (slotsIn (t .frame)) (headerIn (t .frame)) (l .names) (l .lengths) nss ≡ planOf t))
 planned c =
     let o = by (c .before) in
     let s = start o in
@@ -196,7 +197,7 @@ write-plan-requires c κs =
     let t = s .args .t1 in
     let w = s .pre .0 .0 in
     let u = s .pre .0 .1 .used in
-    ((planned l .0, search needs), (spare-made t w u (order o) (made l), sized-made t w u (order o) (made l)))
+    ((planned l .0, (search needs, omega (arith, header-less (w .setting)))), (spare-made t w u (order o) (made l), sized-made t w u (order o) (made l)))
 
 same-length : tie.Need-same-length Inv-loop μ-loop
 same-length c = search needs

@@ -42,12 +42,13 @@ blank-pen-requires c κs = search needs
 
 loop-holds : tie.Need-loop-holds Inv-loop μ-loop
 loop-holds c =
-    let h = c .before .before .before .before in
+    let p = c .before in
+    let h = p .before .before .before .before in
     let f = h .before .before .before in
     let z = f .before .before .before .before in
     let filled = f .fill-rows .ensures in
-    let r = c .before .fill-releases .ensures in (
-      rw filled (begin (z .args .plan .now) (z .pre .0 .0) (given z) (rows-sized z .0) (rows-sized z .1) (c .blank-pen .ensures)),
+    let r = p .before .fill-releases .ensures in (
+      rw filled (begin (z .args .plan .now) (z .pre .0 .0) (given z) (z .pre .0 .1 .1) (rows-sized z .0) (rows-sized z .1) (p .blank-pen .ensures)),
       ((record { heads = h .fill-heads .ensures; releases = r }, rw filled (made-padded z .1 .1)), λ h. absurd (omega arith)),
     )
 

@@ -23,7 +23,7 @@ returns : tie.Need-returns
 returns c =
     let o = c .before in
     let h = o .before .pre in
-    let s = setting (o .before .args .units) in
+    let s = setting (o .before .args .units) (o .before .args .header) in
     let e = o .«open» .ensures .1 ∙ succeeded s h in
     (e, subst WellFormed (sym e) (opened-formed s h))
 

@@ -7,7 +7,7 @@ use Rattle.demo_cases.proofs.one_unit.Statement.{statement}
 use Rattle.demo_cases.proofs.one_unit.Tie as tie
 
 table-of-requires : tie.Need-table-of-requires
-table-of-requires c κs = units-opening (setting 1) refl
+table-of-requires c κs = units-opening (setting 1 0) refl refl
 
 returns : tie.Need-returns
 returns c = search needs

@@ -7,7 +7,7 @@ use Rattle.demo_cases.proofs.three_units.Statement.{statement}
 use Rattle.demo_cases.proofs.three_units.Tie as tie
 
 table-of-requires : tie.Need-table-of-requires
-table-of-requires c κs = units-opening (setting 3) refl
+table-of-requires c κs = units-opening (setting 3 0) refl refl
 
 returns : tie.Need-returns
 returns c = search needs

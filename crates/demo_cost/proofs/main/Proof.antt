@@ -7,7 +7,7 @@ use Rattle.demo_cost.proofs.main.Statement.{statement}
 use Rattle.demo_cost.proofs.main.Tie as tie
 
 full-table-requires : tie.Need-full-table-requires
-full-table-requires c κs = units-opening (setting 15) refl
+full-table-requires c κs = units-opening (setting 15 0) refl refl
 
 slice-aggregate-four-beacons : tie.Need-slice-aggregate-four-beacons
 slice-aggregate-four-beacons c = search needs
@@ -16,7 +16,7 @@ four-beacons-requires : tie.Need-four-beacons-requires
 four-beacons-requires c κs = search needs
 
 full-table-requires-2 : tie.Need-full-table-requires-2
-full-table-requires-2 c κs = units-opening (setting 1000) refl
+full-table-requires-2 c κs = units-opening (setting 1000 0) refl refl
 
 slice-aggregate-four-beacons-2 : tie.Need-slice-aggregate-four-beacons-2
 slice-aggregate-four-beacons-2 c = search needs

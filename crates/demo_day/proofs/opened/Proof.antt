@@ -7,7 +7,7 @@ use Rattle.demo_day.proofs.opened.Statement.{statement}
 use Rattle.demo_day.proofs.opened.Tie as tie
 
 table-of-requires : tie.Need-table-of-requires
-table-of-requires c κs = units-opening (setting 100) refl
+table-of-requires c κs = units-opening (setting 100 0) refl refl
 
 returns : tie.Need-returns
 returns c = search needs

@@ -68,12 +68,12 @@ use Rattle.gelmush.proofs.gelmush_open as lent′
 use Rattle.gelmush.proofs.gelmush_open.Statement as stated
 use Rattle.gelmush.proofs.gelmush_open.Code as code
 
--- the time units that C hands in, and the setting that is made of them
+-- the time units and the header that C hands in, and the setting that is made of them
 abbrev units : List Plain
-units = number-beside ∷ []
+units = number-beside ∷ number-beside ∷ []
 
 abbrev settingOf : (κ : Lft) → Values units κ → Setting
-settingOf κ n = setting (n .0)
+settingOf κ n = setting (n .0) (n .1 .0)
 
 abbrev settingVal : Setting → Val
 settingVal s = LL.val U.the-type U′.the-laws s
@@ -171,10 +171,11 @@ module _ {M : Type 1} (𝓤 : URA M) (H : Heap 𝓤) (A : Atoms 𝓤) (at-mem : 
     walk =
         let is = is-setting κ n are in
         qed W (‵ (fobs γ (lent h)) ∷ ‵ (loan κ b o γ) ∷ ‵ (flft κ q) ∷ raw (emp 𝓤) ∷ []) ∵
-        enters ! (𝓣 .C) (𝓣 .Λ) code.function (vptr b o ∷ machines units κ n) _ (λ l₀ l₁ l₂ l₃ l₄ l₅ l₆ l₇. params1 ! $
-        pass1 ! (keeps ! 0 1 refl tt (tt, tt)) $ pass1 ! (keeps ! 0 2 refl tt (tt, record { fits = are .0 .1 })) $ pass0 ! $
+        enters ! (𝓣 .C) (𝓣 .Λ) code.function (vptr b o ∷ machines units κ n) _ (λ l₀ l₁ l₂ l₃ l₄ l₅ l₆ l₇ l₈. params1 ! $
+        pass1 ! (keeps ! 0 1 refl tt (tt, tt)) $ pass1 ! (keeps ! 0 2 refl tt (tt, record { fits = are .0 .1 })) $
+        pass1 ! (keeps ! 0 3 refl tt (tt, record { fits = are .1 .0 .1 })) $ pass0 ! $
         -- [the locals; obs; the loan; its token; true]
-        sets ! 0 refl tt (agg ! (and-then ! (value ! 0 refl refl) (no-more !)))
+        sets ! 0 refl tt (agg ! (and-then ! (value ! 0 refl refl) (and-then ! (value ! 0 refl refl) (no-more !))))
         (LL.lawful U.the-type U′.the-laws 𝓤 H A W .typed s _ is .0) $
         calls-value ! (fmOf 𝓤 H (W .laws) 𝓣) R.the-row answerVal (EL.tells R.the-type R′.the-laws) (λ a. openNumber a ≡ openAnswer s) Answer
         known-answer (to-answer W s is) (answer-asked W s is) (answer-given W s is) (and-then ! (value ! 1 refl refl) (no-more !)) (λ a e is-a.

@@ -11,7 +11,7 @@ use borrow.Author.Needs.{needs}
 use Rattle.base_lists.proofs.Known.{sized}
 use Rattle.spec_model.proofs.Name as N
 use Rattle.spec_rules.specs.Slots.{Job, choose}
-use Rattle.spec_model.specs.Frames.{slotsIn}
+use Rattle.spec_model.specs.Frames.{slotsIn, headerIn}
 use Rattle.spec_model.specs.Tables.{places}
 use Rattle.spec_model.specs.declared.Name.{Name}
 use Rattle.spec_rules.specs.Records.{recordWords}
@@ -27,7 +27,7 @@ use Rattle.beacon_plan.proofs.write_plan.Tie as tie
 
 abbrev pub Inv-loop : tie.InvT-loop
 Inv-loop rows lengths counts each plan₀ names b left₀ heads₀ releases₀ pen₀ t₀ next₀ plan left heads releases pen t next =
-    State (b .0) (t .0) names lengths (rowPlan (b .0) names lengths (needRows counts each)) plan₀ plan left pen
+    State (b .0) (t .0) names lengths (rowPlan (b .0) (t₀ .0) names lengths (needRows counts each)) plan₀ plan left pen
     × ((Firsts lengths left heads releases × Spared rows left) × (t .0 < next .0 → next .0 ≡ nextOf (b .0) (t .0) lengths))
 
 abbrev pub μ-loop : tie.MeasureT-loop
@@ -36,7 +36,7 @@ abbrev pub μ-loop : tie.MeasureT-loop
 
 -- the function's entry, from a turn of the loop
 abbrev pub entry : tie.At-loop Inv-loop μ-loop → tie.Start Inv-loop μ-loop
-entry l = l .before .before .before .before .before .before .before .before .before .before .before .before
+entry l = l .before .before .before .before .before .before .before .before .before .before .before .before .before
 
 module _ (z : tie.Start Inv-loop μ-loop) where
   -- the end of the interval; the rows, and what their jobs need at first
@@ -68,13 +68,13 @@ rows-sized z = counted-sized (z .pre .1 .1 .1)
 pub made-padded : (z : tie.Start Inv-loop μ-loop) → Padded (z .args .rows) (replicate 16 0) (made z)
 made-padded z = (rows-sized z .0, (z .pre .1 .0 .0, z .pre .1 .0 .1 .needs))
 
-pub few : (z : tie.Start Inv-loop μ-loop) → length (rowPlan (end z) (ss z) (Ts z) (made z)) ≤ fewRuns
-few z = plan-few (z .pre .0 .0) (rows-sized z .0) (rows-sized z .1)
+pub few : (z : tie.Start Inv-loop μ-loop) → length (rowPlan (end z) (headerIn (z .args .f)) (ss z) (Ts z) (made z)) ≤ fewRuns
+few z = plan-few (headerIn (z .args .f)) (z .pre .0 .0) (rows-sized z .0) (rows-sized z .1)
 
 -- the words lent are as many as they were, and there is room for a record more
 pub spare : (l : tie.At-loop Inv-loop μ-loop)
     → (length (l .loop .plan) ≡ length (entry l .args .plan .now)) × (recordWords * (l .loop .pen .count + 1) ≤ length (l .loop .plan))
-spare l = room (l .loop .inv .0) (few (entry l)) (entry l .pre .0 .1)
+spare l = room (l .loop .inv .0) (few (entry l)) (entry l .pre .0 .1 .0)
 
 -- a turn that has its place: where it began, and its next release
 abbrev pub at : tie.Then1 Inv-loop μ-loop → tie.At-loop Inv-loop μ-loop

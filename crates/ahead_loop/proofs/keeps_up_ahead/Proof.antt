@@ -4,8 +4,8 @@ use Rattle.spec_model.specs.Tables.{putIn}
 use Rattle.ahead_figures.specs.Columns.{Columns, columns, columnsOf, entered, columns-free, columns-entered}
 use Rattle.law_figures.specs.Looking.{Begins}
 use Rattle.law_figures.specs.Begin.{begins, load-small, put-used}
-use Rattle.ahead_loop.proofs.fits_ahead.Statement.{statement}
-use Rattle.ahead_loop.proofs.fits_ahead.Tie as tie
+use Rattle.ahead_loop.proofs.keeps_up_ahead.Statement.{statement}
+use Rattle.ahead_loop.proofs.keeps_up_ahead.Tie as tie
 
 room-in-requires : tie.Need-room-in-requires
 room-in-requires c κs = search needs
@@ -60,8 +60,8 @@ goes-well-requires c κs = (_, begun (c .before .before .before .before .before 
 returns : tie.Need-returns
 returns c = c .goes-well .ensures _ (begun (c .before .before .before .before .before .before .before .before))
 
-pub fits-ahead-spec : {M : Type 1} → statement M
-fits-ahead-spec =
+pub keeps-up-ahead-spec : {M : Type 1} → statement M
+keeps-up-ahead-spec =
     tie.close
     (tie.spec
     room-in-requires

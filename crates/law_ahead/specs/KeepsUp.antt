@@ -1,4 +1,4 @@
--- Looking ahead says yes exactly where the entries fit. Assumes nothing.
+-- Looking ahead but for the header test says yes exactly where the entries can be served in time. Assumes nothing.
 use mathlib.Core.Path.{_≡_, refl, sym, ap, ap₂, _∙_}
 use mathlib.Core.Logic.{inl, inr}
 use mathlib.Core.Bool.{Bool, true, false, cond, _&&_, _||_}
@@ -19,13 +19,13 @@ use Rattle.spec_model.specs.declared.Entry.{Entry}
 use Rattle.spec_model.specs.declared.Frame.{Frame}
 use Rattle.spec_model.specs.Frames.{roomIn}
 use Rattle.spec_rules.specs.Share.{load, overfull, stepB}
-use Rattle.spec_rules.specs.Ahead.{misses, goesWell, fitsAhead}
+use Rattle.spec_rules.specs.Ahead.{misses}
 use Rattle.spec_rules.specs.WellFormed.{Held}
 use Rattle.law_steps.specs.Held.{held-kinds, piece-of, fraction-not}
 use Rattle.law_steps.specs.Sources.{sourceOf, fraction-source, source-rem, source-left}
 use Rattle.law_steps.specs.StepB.{stepBOf}
 use Rattle.law_ahead.specs.Moved.{Together, lifeOf, moved, no-extras, moved-together, moved-life}
-use Rattle.law_ahead.specs.Fits.{Fits, pieceOf, loads-now, fits-meets, fits-on, fits-back}
+use Rattle.law_ahead.specs.Timely.{Timely, pieceOf, loads-now, timely-meets, timely-on, timely-back}
 
 -- ---- the test of a miss is the theory's
 module _ (F : Frame) (es : List Entry) where
@@ -55,15 +55,20 @@ module _ (F : Frame) (es : List Entry) where
   ]
 
 -- ---- n intervals
-pub fits-well : (n : ℕ) (F : Frame) (es : List Entry) → Together F es → Fits F es → goesWell n F es ≡ true
-unfolding goesWell
-fits-well zero F es w f = refl
-fits-well (suc n) F es w f =
+-- in none of them is E negative or a deadline missed: looking ahead but for the header test
+unfoldable pub keepsUp : (n : ℕ) → Frame → List Entry → Bool
+keepsUp zero F es = true
+keepsUp (suc n) F es = cond (overfull F es || anyOf (misses (stepB F es)) es) false (keepsUp n F (moved (stepB F es) [] es))
+
+timely-well : (n : ℕ) (F : Frame) (es : List Entry) → Together F es → Timely F es → keepsUp n F es ≡ true
+unfolding keepsUp
+timely-well zero F es w f = refl
+timely-well (suc n) F es w f =
     let x = no-extras F es (w .once) in
-    ap₂ (λ (a b : Bool). cond (a || b) false (goesWell n F (moved (stepB F es) [] es)))
+    ap₂ (λ (a b : Bool). cond (a || b) false (keepsUp n F (moved (stepB F es) [] es)))
     (le-ltb (roomIn F) (load es) (omega (arith, f .load 0, loads-now F es w)))
-    (none-any (misses (stepB F es)) (all-zip (λ e h m. meets-not F es e h m) (w .held) (fits-meets F [] es w x f)))
-    ∙ fits-well n F (moved (stepB F es) [] es) (moved-together F (stepB F es) [] es w x) (fits-on F [] es w x f)
+    (none-any (misses (stepB F es)) (all-zip (λ e h m. meets-not F es e h m) (w .held) (timely-meets F [] es w x f)))
+    ∙ timely-well n F (moved (stepB F es) [] es) (moved-together F (stepB F es) [] es w x) (timely-on F [] es w x f)
 
 branch : (a b r : Bool) → cond (a || b) false r ≡ true → (a ≡ false) × (b ≡ false) × (r ≡ true)
 branch true b r h = absurd (clash false h refl)
@@ -71,28 +76,31 @@ branch false true r h = absurd (clash false h refl)
 branch false false r h = (refl, refl, h)
 
 -- nothing is held any more
-none-left : (F : Frame) (es : List Entry) → Together F es → All (λ e. e .«life_left» .0 ≤ 0) es → Fits F es
+none-left : (F : Frame) (es : List Entry) → Together F es → All (λ e. e .«life_left» .0 ≤ 0) es → Timely F es
 none-left F [] w l = record { load = λ t. zero-le; room = λ s d. zero-le }
 none-left F (e ∷ es) w l = absurd (omega (arith, head (w .held) .alive, head l))
 
-pub well-fits : (n : ℕ) (F : Frame) (es : List Entry) → Together F es → All (λ e. e .«life_left» .0 ≤ n) es → goesWell n F es ≡ true → Fits F es
-unfolding goesWell
-well-fits zero F es w l h = none-left F es w l
-well-fits (suc n) F es w l h =
+well-timely : (n : ℕ) (F : Frame) (es : List Entry) → Together F es → All (λ e. e .«life_left» .0 ≤ n) es → keepsUp n F es ≡ true → Timely F es
+unfolding keepsUp
+well-timely zero F es w l h = none-left F es w l
+well-timely (suc n) F es w l h =
     let x = no-extras F es (w .once) in
-    let p = branch (overfull F es) (anyOf (misses (stepB F es)) es) (goesWell n F (moved (stepB F es) [] es)) h in
-    fits-back F [] es w x (ltb-false (roomIn F) (load es) (p .0))
+    let p = branch (overfull F es) (anyOf (misses (stepB F es)) es) (keepsUp n F (moved (stepB F es) [] es)) h in
+    timely-back F [] es w x (ltb-false (roomIn F) (load es) (p .0))
     (all-zip (λ e h m. not-misses F es e h m) (w .held) (any-none (misses (stepB F es)) es (p .1)))
-    (well-fits n F (moved (stepB F es) [] es) (moved-together F (stepB F es) [] es w x) (moved-life F (stepB F es) [] es w x n l) (p .2))
+    (well-timely n F (moved (stepB F es) [] es) (moved-together F (stepB F es) [] es w x) (moved-life F (stepB F es) [] es w x n l) (p .2))
 
 -- ---- until every life is used up
 pub lives-most : (es : List Entry) → All (λ e. e .«life_left» .0 ≤ mostOf lifeOf es) es
 lives-most es = most-all lifeOf es (mostOf lifeOf es) (le-refl _)
 
-pub ahead-fits : (F : Frame) (es : List Entry) → Together F es → fitsAhead F es ≡ true → Fits F es
-unfolding fitsAhead
-ahead-fits F es w h = well-fits (mostOf lifeOf es) F es w (lives-most es) h
+unfoldable pub keepsUpAhead : Frame → List Entry → Bool
+keepsUpAhead F es = keepsUp (mostOf lifeOf es) F es
 
-pub fits-ahead : (F : Frame) (es : List Entry) → Together F es → Fits F es → fitsAhead F es ≡ true
-unfolding fitsAhead
-fits-ahead F es w f = fits-well (mostOf lifeOf es) F es w f
+pub ahead-timely : (F : Frame) (es : List Entry) → Together F es → keepsUpAhead F es ≡ true → Timely F es
+unfolding keepsUpAhead
+ahead-timely F es w h = well-timely (mostOf lifeOf es) F es w (lives-most es) h
+
+pub timely-ahead : (F : Frame) (es : List Entry) → Together F es → Timely F es → keepsUpAhead F es ≡ true
+unfolding keepsUpAhead
+timely-ahead F es w f = timely-well (mostOf lifeOf es) F es w f

@@ -5,11 +5,11 @@ use borrow.Author.Needs.{needs}
 use Rattle.spec_model.specs.Entries.{freeEntry}
 use Rattle.spec_model.specs.declared.Table.{Table}
 use Rattle.spec_model.specs.Tables.{heldOf, withEntries, putIn}
-use Rattle.spec_rules.specs.Ahead.{fitsAhead}
+use Rattle.law_ahead.specs.KeepsUp.{keepsUpAhead}
 use Rattle.spec_rules.specs.WellFormed.{Tidy}
-use Rattle.ahead_loop.proofs.fits.Statement.{statement}
+use Rattle.ahead_loop.proofs.keeps_up.Statement.{statement}
 use lib.ListN.{getD}
-use Rattle.ahead_loop.proofs.fits.Tie as tie
+use Rattle.ahead_loop.proofs.keeps_up.Tie as tie
 
 element-copy-out-e : tie.Need-element-copy-out-e
 element-copy-out-e c = search needs
@@ -18,13 +18,13 @@ element-copy-out-e c = search needs
 same : (t : Table) → putIn t 0 (getD (t .entries) 0 freeEntry) ≡ t
 same t = ap (withEntries t) (set-getD (t .entries) 0 freeEntry)
 
-fits-ahead-requires : tie.Need-fits-ahead-requires
-fits-ahead-requires c κs =
+keeps-up-ahead-requires : tie.Need-keeps-up-ahead-requires
+keeps-up-ahead-requires c κs =
     let s = c .before in
     (s .pre, (omega arith, subst Tidy (sym (same (s .args .t1))) (s .pre .0)))
 
 returns : tie.Need-returns
-returns c = c .fits-ahead .ensures ∙ ap (λ t. fitsAhead (t .frame) (heldOf t)) (same (c .before .before .args .t1))
+returns c = c .keeps-up-ahead .ensures ∙ ap (λ t. keepsUpAhead (t .frame) (heldOf t)) (same (c .before .before .args .t1))
 
-pub fits-spec : {M : Type 1} → statement M
-fits-spec = tie.close (tie.spec element-copy-out-e fits-ahead-requires returns)
+pub keeps-up-spec : {M : Type 1} → statement M
+keeps-up-spec = tie.close (tie.spec element-copy-out-e keeps-up-ahead-requires returns)
