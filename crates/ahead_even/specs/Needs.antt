@@ -2,21 +2,21 @@
 -- that for each entry this is what the entry needs. Assumes nothing.
 use Rattle.std.specs.Prelude.{◌≡◌, List, [], ℕ, ◌+◌, ◌-◌, ◌≤◌, ◌<◌, max, get_or}
 use Rattle.std.proofs.Common.{arith}
-use Rattle.base_numbers.specs.Upward.{upward, upward-none}
+use Rattle.base_numbers.specs.Upward.{upward, upward_none}
 use Rattle.spec_model.specs.declared.Entry.{Entry}
 use Rattle.spec_model.specs.Tables.{places}
 use Rattle.law_ahead.specs.Even.{evenly}
-use Rattle.ahead_figures.specs.Columns.{Columns, columns, figuresAt}
+use Rattle.ahead_figures.specs.Columns.{Columns, columns, figures_at}
 use Rattle.ahead_figures.specs.Totals.{total}
 use Rattle.ahead_figures.specs.declared.Figures.{Figures}
 
 -- a place's load, and so many slots of each interval as serve it in time: what it is owed, up to its end, and what each later period begins
 -- with, over the period
-abbrev pub needIn : (now : ℕ) → Figures → ℕ
-needIn now f = f.load.0 + max (upward f.owed.0 (f.end.0 - now)) (upward f.begin.0 f.period.0)
+abbrev pub need_in : (now : ℕ) → Figures → ℕ
+need_in now f = f.load.0 + max (upward f.owed.0 (f.end.0 - now)) (upward f.begin.0 f.period.0)
 
-abbrev pub evenNeeds : (now : ℕ) → Columns → ℕ
-evenNeeds now c = total places (needIn now) c
+abbrev pub even_needs : (now : ℕ) → Columns → ℕ
+even_needs now c = total places (need_in now) c
 
 -- the columns that it goes by: no ranks and no lives
 abbrev pub shares : (owed ends loads begins periods : List ℕ) → Columns
@@ -31,22 +31,22 @@ pub record Shared (c : Columns) (used now : ℕ) : Type 0 where
   pub ahead : (i : ℕ) → i < places → now ≤ get_or c.ends i 0
 
 -- ---- nothing needs nothing
-pub even-none : (left period : ℕ) → max (upward 0 left) (upward 0 period) ≡ 0
-even-none left period = omega (arith, upward-none left, upward-none period)
+pub even_none : (left period : ℕ) → max (upward 0 left) (upward 0 period) ≡ 0
+even_none left period = omega (arith, upward_none left, upward_none period)
 
-pub shared-free : {c : Columns} {used now : ℕ} → Shared c used now → (i : ℕ) → used ≤ i → i < places → needIn now (figuresAt c i) ≡ 0
-shared-free {c} {used} {now} s i h k =
-    rw (s.owed i h k, s.loads i h k, s.begins i h k) (omega (arith, even-none (get_or c.ends i 0 - now) (get_or c.periods i 0)))
+pub shared_free : {c : Columns} {used now : ℕ} → Shared c used now → (i : ℕ) → used ≤ i → i < places → need_in now (figures_at c i) ≡ 0
+shared_free {c} {used} {now} s i h k =
+    rw (s.owed i h k, s.loads i h k, s.begins i h k) (omega (arith, even_none (get_or c.ends i 0 - now) (get_or c.periods i 0)))
 
 -- ---- an entry: the larger of the two serves it evenly
 -- kind 2 has its minimum in each later period
-pub even-whole : (e : Entry) → e.kind ≡ 2
+pub even_whole : (e : Entry) → e.kind ≡ 2
     → max (upward e.owed.0 e.left.0) (upward e.min.0 e.period.0) ≡ evenly e
 unfolding evenly
-even-whole e k = rw k
+even_whole e k = rw k
 
 -- kind 3 has no later period
-pub even-transfer : (e : Entry) → e.kind ≡ 3 → (period : ℕ)
+pub even_transfer : (e : Entry) → e.kind ≡ 3 → (period : ℕ)
     → max (upward e.owed.0 e.left.0) (upward 0 period) ≡ evenly e
 unfolding evenly
-even-transfer e k period = rw (k, upward-none period) (omega arith)
+even_transfer e k period = rw (k, upward_none period) (omega arith)

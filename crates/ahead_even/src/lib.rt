@@ -5,8 +5,8 @@ ghost use Rattle.base_numbers.specs.Upward.{upward};
 ghost use Rattle.spec_rules.specs.Share.{load_of};
 ghost use Rattle.law_ahead.specs.Even.{evenly};
 ghost use Rattle.table_queue.specs.Queues.{largest32};
-ghost use Rattle.ahead_even.specs.Need.{evenNeed};
-ghost use Rattle.ahead_even.specs.Needs.{evenNeeds, shares, Shared};
+ghost use Rattle.ahead_even.specs.Need.{even_need};
+ghost use Rattle.ahead_even.specs.Needs.{even_needs, shares, Shared};
 
 use spec_model::{Entry, Intervals, Slots};
 
@@ -31,7 +31,7 @@ fn even_slots(e: Entry) -> Slots
 
 // Its load, and what serves it in time.
 pub fn need_of(e: Entry) -> u64
-    ensures { (result ≡ evenNeed e) × (result ≤ load_of e + largest32) }
+    ensures { (result ≡ even_need e) × (result ≤ load_of e + largest32) }
 {
     let piece = even_slots(e);
     (piece.0 as u64) + table_entry::load_of(e)
@@ -62,7 +62,7 @@ pub fn needs_of(
 ) -> u64
     requires { Shared (shares owed.now ends.now loads.now begins.now periods.now) used at.0 }
     ensures { result
-        ≡ evenNeeds at.0 (shares owed.now ends.now loads.now begins.now periods.now) }
+        ≡ even_needs at.0 (shares owed.now ends.now loads.now begins.now periods.now) }
 {
     let mut needs: u64 = 0;
     for i in 0..used {

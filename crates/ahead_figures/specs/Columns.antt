@@ -1,17 +1,17 @@
 -- The figures of a table's places as looking ahead keeps them: an array for each figure. Definitions and laws hand them on as one record of
--- columns, and read a place's figures by `figuresAt`. Assumes nothing.
+-- columns, and read a place's figures by `figures_at`. Assumes nothing.
 use Rattle.std.specs.Prelude.{◌≡◌, refl, List, [], ◌∷◌, map, ℕ, zero, suc, ◌<◌, length, set, get_or, replicate}
 use Rattle.std.proofs.Common.{sym, ap, ap₂, ◌∙◌}
 use Rattle.std.proofs.lemmas.List.{length-map}
 use Rattle.base_lists.specs.Loops.{map_at}
-use Rattle.spec_model.specs.Entries.{freeEntry}
+use Rattle.spec_model.specs.Entries.{free_entry}
 use Rattle.spec_model.specs.declared.Entry.{Entry}
 use Rattle.spec_model.specs.Tables.{places}
 use Rattle.spec_rules.specs.Share.{load_of}
-use Rattle.law_model.specs.Loads.{load-of-free}
-use Rattle.law_steps.specs.Ranks.{rank, rank-free}
-use Rattle.table_entry.specs.Amounts.{owedTo}
-use Rattle.ahead_figures.specs.Figures.{never, end_of, lifeOf, beginOf, periodOf, figuresOf}
+use Rattle.law_model.specs.Loads.{load_of_free}
+use Rattle.law_steps.specs.Ranks.{rank, rank_free}
+use Rattle.table_entry.specs.Amounts.{owed_to}
+use Rattle.ahead_figures.specs.Figures.{never, end_of, life_of, begin_of, period_of, figures_of}
 use Rattle.ahead_figures.specs.declared.Figures.{Figures}
 
 pub record Columns : Type 0 where
@@ -39,8 +39,8 @@ pub record Sized (c : Columns) : Type 0 where
   pub periods : length c.periods ≡ places
 
 -- the figures of one place
-abbrev pub figuresAt : Columns → ℕ → Figures
-figuresAt c i =
+abbrev pub figures_at : Columns → ℕ → Figures
+figures_at c i =
     record {
       rank = get_or c.ranks i 0;
       owed = record { 0 = get_or c.owed i 0 };
@@ -58,48 +58,48 @@ entered i f c =
     (set c.loads i f.load.0) (set c.begins i f.begin.0) (set c.periods i f.period.0)
 
 -- ---- the figures of entries
-abbrev pub columnsOf : List Entry → Columns
-columnsOf es =
-    columns (map rank es) (map owedTo es) (map end_of es) (map lifeOf es) (map load_of es) (map beginOf es) (map periodOf es)
+abbrev pub columns_of : List Entry → Columns
+columns_of es =
+    columns (map rank es) (map owed_to es) (map end_of es) (map life_of es) (map load_of es) (map begin_of es) (map period_of es)
 
 -- of free places
-pub columns-free :
+pub columns_free :
     columns (replicate places 0) (replicate places 0) (replicate places never) (replicate places 0) (replicate places 0) (replicate places 0)
     (replicate places 0)
-    ≡ columnsOf (replicate places freeEntry)
-columns-free =
+    ≡ columns_of (replicate places free_entry)
+columns_free =
     ap₂ (λ r l. columns (replicate places r) (replicate places 0) (replicate places never) (replicate places 0) (replicate places l)
-    (replicate places 0) (replicate places 0)) (sym rank-free) (sym load-of-free)
+    (replicate places 0) (replicate places 0)) (sym rank_free) (sym load_of_free)
 
-pub columns-sized : (es : List Entry) → length es ≡ places → Sized (columnsOf es)
-columns-sized es n =
+pub columns_sized : (es : List Entry) → length es ≡ places → Sized (columns_of es)
+columns_sized es n =
     record {
       ranks = one rank;
-      owed = one owedTo;
+      owed = one owed_to;
       ends = one end_of;
-      lives = one lifeOf;
+      lives = one life_of;
       loads = one load_of;
-      begins = one beginOf;
-      periods = one periodOf;
+      begins = one begin_of;
+      periods = one period_of;
     }
   where
     one : (g : Entry → ℕ) → length (map g es) ≡ places
     one g = length-map es g ∙ n
 
-pub columns-at : (es : List Entry) (i : ℕ) → i < length es → figuresAt (columnsOf es) i ≡ figuresOf (get_or es i freeEntry)
-columns-at es i h = rw (one rank, one owedTo, one end_of, one lifeOf, one load_of, one beginOf, one periodOf)
+pub columns_at : (es : List Entry) (i : ℕ) → i < length es → figures_at (columns_of es) i ≡ figures_of (get_or es i free_entry)
+columns_at es i h = rw (one rank, one owed_to, one end_of, one life_of, one load_of, one begin_of, one period_of)
   where
-    one : (g : Entry → ℕ) → get_or (map g es) i 0 ≡ g (get_or es i freeEntry)
-    one g = map_at g es i freeEntry 0 h
+    one : (g : Entry → ℕ) → get_or (map g es) i 0 ≡ g (get_or es i free_entry)
+    one g = map_at g es i free_entry 0 h
 
-map-set : (g : Entry → ℕ) (es : List Entry) (i : ℕ) (e : Entry) → set (map g es) i (g e) ≡ map g (set es i e)
-map-set g [] i e = refl
-map-set g (x ∷ es) zero e = refl
-map-set g (x ∷ es) (suc i) e = ap (λ l. g x ∷ l) (map-set g es i e)
+map_set : (g : Entry → ℕ) (es : List Entry) (i : ℕ) (e : Entry) → set (map g es) i (g e) ≡ map g (set es i e)
+map_set g [] i e = refl
+map_set g (x ∷ es) zero e = refl
+map_set g (x ∷ es) (suc i) e = ap (λ l. g x ∷ l) (map_set g es i e)
 
 -- of one more entry, in its place
-pub columns-entered : (es : List Entry) (i : ℕ) (e : Entry) → entered i (figuresOf e) (columnsOf es) ≡ columnsOf (set es i e)
-columns-entered es i e = rw (one rank, one owedTo, one end_of, one lifeOf, one load_of, one beginOf, one periodOf)
+pub columns_entered : (es : List Entry) (i : ℕ) (e : Entry) → entered i (figures_of e) (columns_of es) ≡ columns_of (set es i e)
+columns_entered es i e = rw (one rank, one owed_to, one end_of, one life_of, one load_of, one begin_of, one period_of)
   where
     one : (g : Entry → ℕ) → set (map g es) i (g e) ≡ map g (set es i e)
-    one g = map-set g es i e
+    one g = map_set g es i e

@@ -5,33 +5,33 @@ use Rattle.std.proofs.Common.{◌∙◌, add-one, arith}
 use mathlib.Core.List.{List, [], ◌∷◌}
 use Prim.Native.Nat.{ℕ, zero, suc, ◌+◌, ◌≤◌, ◌<◌, zero-le}
 use Rattle.spec_lists.specs.Lists.{span, sum_of}
-use Rattle.base_edf.specs.Time.{span_agree, span-join, span-one}
-use Rattle.spec_model.specs.Entries.{freeEntry}
+use Rattle.base_edf.specs.Time.{span_agree, span_join, span_one}
+use Rattle.spec_model.specs.Entries.{free_entry}
 use Rattle.spec_model.specs.declared.Entry.{Entry}
-use Rattle.ahead_figures.specs.Columns.{Columns, figuresAt}
+use Rattle.ahead_figures.specs.Columns.{Columns, figures_at}
 use Rattle.ahead_figures.specs.declared.Figures.{Figures}
 
 -- g of each of the first n places
 unfoldable pub total : ℕ → (Figures → ℕ) → Columns → ℕ
-total n g c = span (λ i. g (figuresAt c i)) 0 n
+total n g c = span (λ i. g (figures_at c i)) 0 n
 
 module _ (g : Figures → ℕ) (c : Columns) where
-  pub total-none : total 0 g c ≡ 0
+  pub total_none : total 0 g c ≡ 0
   unfolding total
-  total-none = refl
+  total_none = refl
 
-  pub total-more : (i : ℕ) → total (i + 1) g c ≡ total i g c + g (figuresAt c i)
+  pub total_more : (i : ℕ) → total (i + 1) g c ≡ total i g c + g (figures_at c i)
   unfolding total
-  total-more i =
-      let f : ℕ → ℕ = λ j. g (figuresAt c j) in
-      rw (add-one i) (omega (arith, span-join f 0 i (suc i) zero-le (omega arith), span-one f i))
+  total_more i =
+      let f : ℕ → ℕ = λ j. g (figures_at c j) in
+      rw (add-one i) (omega (arith, span_join f 0 i (suc i) zero-le (omega arith), span_one f i))
 
   -- the others add nothing
-  pub total-spare : {n m : ℕ} → n ≤ m → ((i : ℕ) → n ≤ i → i < m → g (figuresAt c i) ≡ 0) → total n g c ≡ total m g c
+  pub total_spare : {n m : ℕ} → n ≤ m → ((i : ℕ) → n ≤ i → i < m → g (figures_at c i) ≡ 0) → total n g c ≡ total m g c
   unfolding total
-  total-spare {n} {m} l h =
-      let f : ℕ → ℕ = λ j. g (figuresAt c j) in
-      omega (arith, span-join f 0 n m zero-le l, span_agree f (λ _. 0) n m h, zeros n m)
+  total_spare {n} {m} l h =
+      let f : ℕ → ℕ = λ j. g (figures_at c j) in
+      omega (arith, span_join f 0 n m zero-le l, span_agree f (λ _. 0) n m h, zeros n m)
     where
       zeros : (a b : ℕ) → span (λ _. 0) a b ≡ 0
       zeros zero zero = refl
@@ -40,16 +40,16 @@ module _ (g : Figures → ℕ) (c : Columns) where
       zeros (suc a) (suc b) = zeros a b
 
   -- of entries
-  pub total-entries : (h : Entry → ℕ) (es : List Entry) → ((i : ℕ) → i < length es → g (figuresAt c i) ≡ h (get_or es i freeEntry))
+  pub total_entries : (h : Entry → ℕ) (es : List Entry) → ((i : ℕ) → i < length es → g (figures_at c i) ≡ h (get_or es i free_entry))
       → total (length es) g c ≡ sum_of h es
   unfolding total
-  total-entries h es q = span_agree _ (λ i. h (get_or es i freeEntry)) 0 (length es) (λ i _ l. q i l) ∙ summed es
+  total_entries h es q = span_agree _ (λ i. h (get_or es i free_entry)) 0 (length es) (λ i _ l. q i l) ∙ summed es
     where
-      summed : (es : List Entry) → span (λ i. h (get_or es i freeEntry)) 0 (length es) ≡ sum_of h es
+      summed : (es : List Entry) → span (λ i. h (get_or es i free_entry)) 0 (length es) ≡ sum_of h es
       summed [] = refl
       summed (e ∷ es) = omega (arith, summed es)
 
 -- of columns that agree in what g reads
-pub total-same : (g : Figures → ℕ) (c d : Columns) (n : ℕ) → ((i : ℕ) → g (figuresAt c i) ≡ g (figuresAt d i)) → total n g c ≡ total n g d
+pub total_same : (g : Figures → ℕ) (c d : Columns) (n : ℕ) → ((i : ℕ) → g (figures_at c i) ≡ g (figures_at d i)) → total n g c ≡ total n g d
 unfolding total
-total-same g c d n h = span_agree _ _ 0 n (λ i _ _. h i)
+total_same g c d n h = span_agree _ _ 0 n (λ i _ _. h i)

@@ -1,14 +1,14 @@
 // The figures of a table that looking ahead goes by, place by place. Times count intervals from where looking ahead begins, so that a place
 // keeps its figures while it is neither served nor at its end.
 ghost use Rattle.std.specs.Prelude.{◌≡◌, ◌≤◌, ◌<◌, replicate};
-ghost use Rattle.spec_model.specs.Entries.{freeEntry};
+ghost use Rattle.spec_model.specs.Entries.{free_entry};
 ghost use Rattle.spec_model.specs.Tables.{places};
 ghost use Rattle.spec_rules.specs.WellFormed.{Tidy};
 ghost use Rattle.spec_rules.specs.Share.{load_of};
-ghost use Rattle.law_model.specs.Frames.{mostSlots};
+ghost use Rattle.law_model.specs.Frames.{most_slots};
 ghost use Rattle.table_queue.specs.Queues.{Used};
-ghost use Rattle.ahead_figures.specs.Figures.{lifeEnd, figured, figuresOf};
-ghost use Rattle.ahead_figures.specs.Columns.{columns, columnsOf, entered};
+ghost use Rattle.ahead_figures.specs.Figures.{life_end, figured, figures_of};
+ghost use Rattle.ahead_figures.specs.Columns.{columns, columns_of, entered};
 
 use spec_model::{Entry, Intervals, Slots, Table};
 
@@ -31,7 +31,7 @@ pub struct Figures {
 
 // Where there is no period the end is that of the life, if there is one.
 fn life_end(e: Entry) -> Intervals
-    ensures { result.0 ≡ lifeEnd e }
+    ensures { result.0 ≡ life_end e }
 {
     if spec_model::is_nobody(e.name) {
         return NEVER;
@@ -41,7 +41,7 @@ fn life_end(e: Entry) -> Intervals
 
 // What does not go by kind, beside what does.
 fn figured(e: Entry, owed: Slots, end: Intervals, begin: Slots, period: Intervals) -> Figures
-    requires { load_of e ≤ mostSlots }
+    requires { load_of e ≤ most_slots }
     ensures { result ≡ figured e owed end begin period }
 {
     let rank = table_entry::rank(e.left, e.kind, e.name);
@@ -59,8 +59,8 @@ fn figured(e: Entry, owed: Slots, end: Intervals, begin: Slots, period: Interval
 }
 
 pub fn figures_of(e: Entry) -> Figures
-    requires { load_of e ≤ mostSlots }
-    ensures { result ≡ figuresOf e }
+    requires { load_of e ≤ most_slots }
+    ensures { result ≡ figures_of e }
 {
     let kind = e.kind;
     if kind == 2 {
@@ -114,9 +114,9 @@ pub fn read_table(
 )
     requires tidy { Tidy t × Used used t }
     requires periods_value { columns ranks.old owed.old ends.old lives.old loads.old begins.old periods.old
-        ≡ columnsOf (replicate places freeEntry) }
+        ≡ columns_of (replicate places free_entry) }
     ensures { columns ranks.new owed.new ends.new lives.new loads.new
-        begins.new periods.new ≡ columnsOf t.entries }
+        begins.new periods.new ≡ columns_of t.entries }
 {
     for i in 0..used {
         let e = t.entries[i];

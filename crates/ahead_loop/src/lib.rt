@@ -1,9 +1,9 @@
 // Looking ahead: steps A, B and F in turn until every life is used up. Document 01, "Looking ahead". The header test, which holds in all
 // intervals where it holds in the first, is made apart: crate header_test.
 ghost use Rattle.std.specs.Prelude.{◌≡◌, ◌+◌, ◌<◌, max};
-ghost use Rattle.spec_model.specs.Tables.{places, held_of, putIn};
+ghost use Rattle.spec_model.specs.Tables.{places, held_of, put_in};
 ghost use Rattle.spec_rules.specs.WellFormed.{Tidy};
-ghost use Rattle.law_ahead.specs.KeepsUp.{keepsUpAhead};
+ghost use Rattle.law_ahead.specs.KeepsUp.{keeps_up_ahead};
 ghost use Rattle.table_queue.specs.Queues.{Used};
 ghost use Rattle.ahead_figures.specs.Columns.{columns};
 ghost use Rattle.law_figures.specs.Looking.{Begun, Says};
@@ -73,8 +73,8 @@ fn used_with(used: usize, place: usize) -> usize
 // Looks ahead from the table with the entry at its place. The table is only read: what changes from end to end are its figures.
 pub fn keeps_up_ahead(t: Table, used: usize, place: usize, e: Entry) -> bool
     requires tidy { Tidy t × Used used t }
-    requires place_lt_places { (place < places) × Tidy (putIn t place e) }
-    ensures { result ≡ keepsUpAhead t.frame (held_of (putIn t place e)) }
+    requires place_lt_places { (place < places) × Tidy (put_in t place e) }
+    ensures { result ≡ keeps_up_ahead t.frame (held_of (put_in t place e)) }
 {
     let room = spec_model::room_in(t.frame);
     let mut ranks = [0u64; spec_model::PLACES];
@@ -124,7 +124,7 @@ pub fn keeps_up_ahead(t: Table, used: usize, place: usize, e: Entry) -> bool
 // Looks ahead from a table alone: it is itself with the entry of its first place put there.
 pub fn keeps_up(t: Table, used: usize) -> bool
     requires { Tidy t × Used used t }
-    ensures { result ≡ keepsUpAhead t.frame (held_of t) }
+    ensures { result ≡ keeps_up_ahead t.frame (held_of t) }
 {
     let e = t.entries[0];
     keeps_up_ahead(t, used, 0, e)

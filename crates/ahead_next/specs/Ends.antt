@@ -3,6 +3,6 @@ use Rattle.std.specs.Prelude.{List, [], ◌∷◌, ℕ, min}
 use Rattle.ahead_figures.specs.Figures.{never}
 
 -- the first of all
-unfoldable pub firstEnd : List ℕ → ℕ
-firstEnd [] = never
-firstEnd (e ∷ es) = min e (firstEnd es)
+unfoldable pub first_end : List ℕ → ℕ
+first_end [] = never
+first_end (e ∷ es) = min e (first_end es)

@@ -4,14 +4,14 @@ ghost use Rattle.spec_lists.specs.Lists.{sum_of};
 ghost use Rattle.base_lists.specs.Spare.{Spare};
 ghost use Rattle.spec_model.specs.Tables.{places};
 ghost use Rattle.ahead_figures.specs.Figures.{never};
-ghost use Rattle.ahead_next.specs.Ends.{firstEnd};
+ghost use Rattle.ahead_next.specs.Ends.{first_end};
 
 use spec_model::{Intervals, Slots};
 
 // The first end of all.
 pub fn next_end(ends: &[u32; 32], used: usize) -> Intervals
     requires { (used ≤ places) × ((length ends.now ≡ places) × Spare never used ends.now) }
-    ensures { result.0 ≡ firstEnd ends.now }
+    ensures { result.0 ≡ first_end ends.now }
 {
     let mut first = ahead_figures::NEVER.0;
     for i in 0..used {

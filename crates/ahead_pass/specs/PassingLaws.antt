@@ -3,12 +3,12 @@ use Rattle.std.specs.Prelude.{◌≡◌, refl, Bool, true, false, cond, ℕ, ◌
 use Rattle.std.proofs.Common.{sym, ap, ◌∙◌, zero-le, arith, length-set, get_or-set_same, get_or-set_other, eq-eqb, ne_eqb, ltb-true, ltb-false, lt-ltb, le-ltb}
 use Rattle.std.proofs.Math.Decide.{ℕ_discrete}
 use Rattle.base_lists.specs.Tests.{same_test}
-use Rattle.base_lists.specs.Spare.{Spare, spare-at}
+use Rattle.base_lists.specs.Spare.{Spare, spare_at_lem}
 use Rattle.spec_model.specs.Tables.{places}
-use Rattle.ahead_figures.specs.Columns.{Columns, columns, figuresAt, Sized}
+use Rattle.ahead_figures.specs.Columns.{Columns, columns, figures_at, Sized}
 use Rattle.ahead_figures.specs.Figures.{never}
 use Rattle.ahead_figures.specs.declared.Figures.{Figures}
-use Rattle.ahead_pass.specs.Passed.{gone, anew, after_end, passedEnd, PassedEnds}
+use Rattle.ahead_pass.specs.Passed.{gone, anew, after_end, passed_end, PassedEnds}
 
 -- the figures of place i, but for its life and its period, which stay
 abbrev pub moved : ℕ → Figures → Columns → Columns
@@ -17,8 +17,8 @@ moved i g c =
     (set c.loads i g.load.0) (set c.begins i g.begin.0) c.periods
 
 module _ (i : ℕ) (g : Figures) {c : Columns} (s : Sized c) where
-  moved-sized : Sized (moved i g c)
-  moved-sized =
+  moved_sized : Sized (moved i g c)
+  moved_sized =
       record {
         ranks = length-set c.ranks i _ ∙ s.ranks;
         owed = length-set c.owed i _ ∙ s.owed;
@@ -29,7 +29,7 @@ module _ (i : ℕ) (g : Figures) {c : Columns} (s : Sized c) where
         periods = s.periods;
       }
 
-  moved_same : i < places → g.life ≡ (figuresAt c i).life → g.period ≡ (figuresAt c i).period → figuresAt (moved i g c) i ≡ g
+  moved_same : i < places → g.life ≡ (figures_at c i).life → g.period ≡ (figures_at c i).period → figures_at (moved i g c) i ≡ g
   moved_same h l p =
       rw (
         get_or-set_same c.ranks i g.rank 0 (omega (arith, s.ranks)),
@@ -41,7 +41,7 @@ module _ (i : ℕ) (g : Figures) {c : Columns} (s : Sized c) where
         ← p,
       )
 
-  moved_other : (j : ℕ) → (j ≡ i → ⊥) → figuresAt (moved i g c) j ≡ figuresAt c j
+  moved_other : (j : ℕ) → (j ≡ i → ⊥) → figures_at (moved i g c) j ≡ figures_at c j
   moved_other j n =
       rw (
         get_or-set_other c.ranks i j g.rank 0 n,
@@ -52,15 +52,15 @@ module _ (i : ℕ) (g : Figures) {c : Columns} (s : Sized c) where
       )
 
 -- a life and a period stay
-kept-life : (at : ℕ) (f : Figures) → (after_end at f).life ≡ f.life
-kept-life at f = go (eqb f.life.0 at)
+kept_life : (at : ℕ) (f : Figures) → (after_end at f).life ≡ f.life
+kept_life at f = go (eqb f.life.0 at)
   where
     go : (b : Bool) → (cond b (gone f) (anew at f)).life ≡ f.life
     go true = refl
     go false = refl
 
-kept-period : (at : ℕ) (f : Figures) → (after_end at f).period ≡ f.period
-kept-period at f = go (eqb f.life.0 at)
+kept_period : (at : ℕ) (f : Figures) → (after_end at f).period ≡ f.period
+kept_period at f = go (eqb f.life.0 at)
   where
     go : (b : Bool) → (cond b (gone f) (anew at f)).period ≡ f.period
     go true = refl
@@ -68,24 +68,24 @@ kept-period at f = go (eqb f.life.0 at)
 
 module _ (at : ℕ) (c₀ : Columns) where
   abbrev before : ℕ → Figures
-  before j = figuresAt c₀ j
+  before j = figures_at c₀ j
 
   -- after i turns the first i places have passed it
   pub record Passing (i : ℕ) (c : Columns) : Type 0 where
     pub sized : Sized c
-    pub so_far : (j : ℕ) → j < places → figuresAt c j ≡ cond (ltb j i) (passedEnd at (before j)) (before j)
+    pub so_far : (j : ℕ) → j < places → figures_at c j ≡ cond (ltb j i) (passed_end at (before j)) (before j)
 
-  pub passing-none : Sized c₀ → Passing 0 c₀
-  passing-none s = record { sized = s; so_far = λ j h. rw (le-ltb j 0 zero-le) }
+  pub passing_none : Sized c₀ → Passing 0 c₀
+  passing_none s = record { sized = s; so_far = λ j h. rw (le-ltb j 0 zero-le) }
 
   module _ {i : ℕ} {c : Columns} (p : Passing i c) (h : i < places) where
     -- the place of the turn has not passed it yet
-    pub passing-here : figuresAt c i ≡ before i
-    passing-here = p.so_far i h ∙ ap (λ b. cond b (passedEnd at (before i)) (before i)) (le-ltb i i (omega arith))
+    pub passing_here : figures_at c i ≡ before i
+    passing_here = p.so_far i h ∙ ap (λ b. cond b (passed_end at (before i)) (before i)) (le-ltb i i (omega arith))
 
     -- one place more: it has passed, and the others are as they were
-    turned : {c' : Columns} → Sized c' → figuresAt c' i ≡ passedEnd at (before i)
-        → ((j : ℕ) → (j ≡ i → ⊥) → figuresAt c' j ≡ figuresAt c j) → Passing (i + 1) c'
+    turned : {c' : Columns} → Sized c' → figures_at c' i ≡ passed_end at (before i)
+        → ((j : ℕ) → (j ≡ i → ⊥) → figures_at c' j ≡ figures_at c j) → Passing (i + 1) c'
     turned {c'} s here others = record { sized = s; so_far = each }
       where
         same : (j : ℕ) → (j ≡ i → ⊥) → ltb j i ≡ ltb j (i + 1)
@@ -93,40 +93,40 @@ module _ (at : ℕ) (c₀ : Columns) where
             same_test (ltb j i) (ltb j (i + 1)) (λ k. lt-ltb j (i + 1) (omega (arith, ltb-true j i k)))
             (λ k. lt-ltb j i (omega (arith, ltb-true j (i + 1) k)))
 
-        each : (j : ℕ) → j < places → figuresAt c' j ≡ cond (ltb j (i + 1)) (passedEnd at (before j)) (before j)
+        each : (j : ℕ) → j < places → figures_at c' j ≡ cond (ltb j (i + 1)) (passed_end at (before j)) (before j)
         each j l =
             elim (ℕ_discrete j i) [
               | yes e ↦ rw (e, lt-ltb i (i + 1) (omega arith)) here
-              | no n ↦ others j n ∙ p.so_far j l ∙ ap (λ b. cond b (passedEnd at (before j)) (before j)) (same j n)
+              | no n ↦ others j n ∙ p.so_far j l ∙ ap (λ b. cond b (passed_end at (before j)) (before j)) (same j n)
             ]
 
-    pub passing-same : (get_or c.ends i 0 ≡ at → ⊥) → Passing (i + 1) c
-    passing-same n =
-        turned p.sized (passing-here ∙ sym (ap (λ b. cond b (after_end at (before i)) (before i)) (ne_eqb _ at other))) (λ j k. refl)
+    pub passing_same : (get_or c.ends i 0 ≡ at → ⊥) → Passing (i + 1) c
+    passing_same n =
+        turned p.sized (passing_here ∙ sym (ap (λ b. cond b (after_end at (before i)) (before i)) (ne_eqb _ at other))) (λ j k. refl)
       where
         other : (before i).end.0 ≡ at → ⊥
-        other e = n (ap (λ (f : Figures). f.end.0) passing-here ∙ e)
+        other e = n (ap (λ (f : Figures). f.end.0) passing_here ∙ e)
 
-    pub passing-more : {g : Figures} → get_or c.ends i 0 ≡ at → g ≡ after_end at (figuresAt c i) → Passing (i + 1) (moved i g c)
-    passing-more {g} e q =
-        turned (moved-sized i g p.sized) (same ∙ due) (moved_other i g p.sized)
+    pub passing_more : {g : Figures} → get_or c.ends i 0 ≡ at → g ≡ after_end at (figures_at c i) → Passing (i + 1) (moved i g c)
+    passing_more {g} e q =
+        turned (moved_sized i g p.sized) (same ∙ due) (moved_other i g p.sized)
       where
-        same : figuresAt (moved i g c) i ≡ g
+        same : figures_at (moved i g c) i ≡ g
         same =
-            moved_same i g p.sized h (ap (λ (f : Figures). f.life) q ∙ kept-life at (figuresAt c i))
-            (ap (λ (f : Figures). f.period) q ∙ kept-period at (figuresAt c i))
+            moved_same i g p.sized h (ap (λ (f : Figures). f.life) q ∙ kept_life at (figures_at c i))
+            (ap (λ (f : Figures). f.period) q ∙ kept_period at (figures_at c i))
 
-        due : g ≡ passedEnd at (before i)
+        due : g ≡ passed_end at (before i)
         due =
-            q ∙ ap (after_end at) passing-here
-            ∙ sym (ap (λ b. cond b (after_end at (before i)) (before i)) (eq-eqb _ at (sym (ap (λ (f : Figures). f.end.0) passing-here) ∙ e)))
+            q ∙ ap (after_end at) passing_here
+            ∙ sym (ap (λ b. cond b (after_end at (before i)) (before i)) (eq-eqb _ at (sym (ap (λ (f : Figures). f.end.0) passing_here) ∙ e)))
 
   -- behind the places that are used nothing ends
-  pub passing-all : {i n : ℕ} {c : Columns} → Passing i c → n ≤ i → Sized c₀ → Spare never n c₀.ends → at < never → PassedEnds at c₀ c
-  passing-all {i} {n} p h s q l = record { sized = p.sized; each = λ j k. p.so_far j k ∙ go j k (ltb j i) refl }
+  pub passing_all : {i n : ℕ} {c : Columns} → Passing i c → n ≤ i → Sized c₀ → Spare never n c₀.ends → at < never → PassedEnds at c₀ c
+  passing_all {i} {n} p h s q l = record { sized = p.sized; each = λ j k. p.so_far j k ∙ go j k (ltb j i) refl }
     where
-      go : (j : ℕ) → j < places → (b : Bool) → ltb j i ≡ b → cond b (passedEnd at (before j)) (before j) ≡ passedEnd at (before j)
+      go : (j : ℕ) → j < places → (b : Bool) → ltb j i ≡ b → cond b (passed_end at (before j)) (before j) ≡ passed_end at (before j)
       go j k true e = refl
       go j k false e =
           sym (ap (λ b. cond b (after_end at (before j)) (before j))
-          (ne_eqb _ at (λ z. omega (arith, z, spare-at never n j c₀.ends 0 q (omega (arith, ltb-false j i e)) (omega (arith, s.ends))))))
+          (ne_eqb _ at (λ z. omega (arith, z, spare_at_lem never n j c₀.ends 0 q (omega (arith, ltb-false j i e)) (omega (arith, s.ends))))))

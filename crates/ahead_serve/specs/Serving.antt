@@ -5,15 +5,15 @@ use Rattle.spec_lists.specs.Lists.{sum_of}
 use Rattle.base_lists.specs.Spare.{Spare}
 use Rattle.spec_model.specs.Tables.{places}
 use Rattle.table_queue.specs.Zips.{zip}
-use Rattle.table_queue.specs.Queues.{noRank, piece_of}
+use Rattle.table_queue.specs.Queues.{no_rank, piece_of}
 
 -- what stays owed at each place after c slots were handed out by rank
 abbrev pub left_of : (c : ℕ) (ranks owed : List ℕ) → List ℕ
 left_of c ranks owed = zip (λ k o. o - piece_of c ranks owed k o) ranks owed
 
 -- what is due at the end `at`
-abbrev pub dueOf : (at : ℕ) (ends owed : List ℕ) → ℕ
-dueOf at ends owed = sum_of (λ v. v) (zip (λ e o. cond (eqb e at) o 0) ends owed)
+abbrev pub due_of : (at : ℕ) (ends owed : List ℕ) → ℕ
+due_of at ends owed = sum_of (λ v. v) (zip (λ e o. cond (eqb e at) o 0) ends owed)
 
 -- and what is not
 abbrev pub unpaid : (at : ℕ) (ends owed : List ℕ) → List ℕ
@@ -35,7 +35,7 @@ pub record Owing (keys owed : List ℕ) (used : ℕ) : Type 0 where
 pub record Ranked (ranks owed : List ℕ) (used : ℕ) : Type 0 where
   pub owing : Owing ranks owed used
   pub apart : Apart ranks owed
-  pub small : All (λ r. r < noRank) ranks
+  pub small : All (λ r. r < no_rank) ranks
 
 -- i is the place of the lowest rank among those that are owed something, and no place where nobody is
 pub record First (ranks owed : List ℕ) (i : ℕ) : Type 0 where

@@ -1,7 +1,7 @@
 // The service of looking ahead, by numbers: what the places are owed is served from a number of slots by rank, the lowest first, and leaves
 // the queue where its end comes. The loops stop after the last place that is used.
 ghost use Rattle.std.specs.Prelude.{cond, ◌≡◌, min, eqb};
-ghost use Rattle.ahead_serve.specs.Serving.{left_of, dueOf, unpaid, Owing, Ranked, First};
+ghost use Rattle.ahead_serve.specs.Serving.{left_of, due_of, unpaid, Owing, Ranked, First};
 
 use spec_model::{Intervals, Slots};
 
@@ -19,7 +19,7 @@ fn due_if(owed: Slots, end: Intervals, at: Intervals) -> Slots
 pub fn pay_due(owed: &mut [u32; 32], ends: &[u32; 32], used: usize, at: Intervals) -> u64
     requires { Owing ends.now owed.old used }
     ensures { let es = ends.now in let os = owed.old in
-        (result ≡ dueOf at.0 es os) × (owed.new ≡ unpaid at.0 es os) }
+        (result ≡ due_of at.0 es os) × (owed.new ≡ unpaid at.0 es os) }
 {
     let mut due: u64 = 0;
     for i in 0..used {

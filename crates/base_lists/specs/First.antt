@@ -9,19 +9,19 @@ use native.Mathlib.Omega.{arith}
 use Rattle.std.proofs.Math.Dec.{ltb, leb-suc-suc, eqb-suc-suc, eqb-zero-suc}
 use Rattle.std.proofs.Math.ListN.{length, set}
 use borrow.Author.Tests.{lt-ltb}
-use Rattle.spec_lists.specs.Lists.{one-if, cons-if, keep, sum_of, any_of}
-use Rattle.base_lists.specs.Sums.{length-keep}
-use Rattle.base_lists.specs.Loops.{left-next}
+use Rattle.spec_lists.specs.Lists.{one_if, cons_if, keep, sum_of, any_of}
+use Rattle.base_lists.specs.Sums.{length_keep}
+use Rattle.base_lists.specs.Loops.{left_next}
 
 module _ {A : Type 0} (p : A → Bool) where
   unfoldable pub first_of : List A → ℕ
   first_of [] = 0
   first_of (x ∷ xs) = let n = first_of xs in cond (p x) 0 (suc n)
 
-  pub first-most : (xs : List A) → first_of xs ≤ length xs
+  pub first_most : (xs : List A) → first_of xs ≤ length xs
   unfolding first_of
-  first-most [] = omega arith
-  first-most (x ∷ xs) = go (p x) (first-most xs)
+  first_most [] = omega arith
+  first_most (x ∷ xs) = go (p x) (first_most xs)
     where
       go : (b : Bool) → first_of xs ≤ length xs → cond b 0 (suc (first_of xs)) ≤ suc (length xs)
       go true h = omega arith
@@ -38,33 +38,33 @@ module _ {A : Type 0} (p : A → Bool) where
       go false e = leb-suc-suc (suc (first_of xs)) (length xs) ∙ e
 
   -- where no two pass, that one is replaced and every other stays
-  none-mapped : (d : A) (xs : List A) → sum_of (λ x. one-if (p x)) xs ≤ 0 → xs ≡ map (λ x. cond (p x) d x) xs
-  none-mapped d [] h = refl
-  none-mapped d (x ∷ xs) h = go (p x) h (λ k. none-mapped d xs k)
+  none_mapped : (d : A) (xs : List A) → sum_of (λ x. one_if (p x)) xs ≤ 0 → xs ≡ map (λ x. cond (p x) d x) xs
+  none_mapped d [] h = refl
+  none_mapped d (x ∷ xs) h = go (p x) h (λ k. none_mapped d xs k)
     where
-      go : (b : Bool) → one-if b + sum_of (λ x. one-if (p x)) xs ≤ 0 → (sum_of (λ x. one-if (p x)) xs ≤ 0 → xs ≡ map (λ x. cond (p x) d x) xs)
+      go : (b : Bool) → one_if b + sum_of (λ x. one_if (p x)) xs ≤ 0 → (sum_of (λ x. one_if (p x)) xs ≤ 0 → xs ≡ map (λ x. cond (p x) d x) xs)
           → x ∷ xs ≡ cond b d x ∷ map (λ x. cond (p x) d x) xs
       go true h r = absurd (omega arith)
       go false h r = ap (λ l. x ∷ l) (r (omega arith))
 
-  pub first-set : (d : A) (xs : List A) → sum_of (λ x. one-if (p x)) xs ≤ 1 → set xs (first_of xs) d ≡ map (λ x. cond (p x) d x) xs
+  pub first_set : (d : A) (xs : List A) → sum_of (λ x. one_if (p x)) xs ≤ 1 → set xs (first_of xs) d ≡ map (λ x. cond (p x) d x) xs
   unfolding first_of
-  first-set d [] h = refl
-  first-set d (x ∷ xs) h = go (p x) h (λ k. first-set d xs k)
+  first_set d [] h = refl
+  first_set d (x ∷ xs) h = go (p x) h (λ k. first_set d xs k)
     where
-      go : (b : Bool) → one-if b + sum_of (λ x. one-if (p x)) xs ≤ 1
-          → (sum_of (λ x. one-if (p x)) xs ≤ 1 → set xs (first_of xs) d ≡ map (λ x. cond (p x) d x) xs)
+      go : (b : Bool) → one_if b + sum_of (λ x. one_if (p x)) xs ≤ 1
+          → (sum_of (λ x. one_if (p x)) xs ≤ 1 → set xs (first_of xs) d ≡ map (λ x. cond (p x) d x) xs)
           → set (x ∷ xs) (cond b 0 (suc (first_of xs))) d ≡ cond b d x ∷ map (λ x. cond (p x) d x) xs
-      go true h r = ap (λ l. d ∷ l) (none-mapped d xs (omega arith))
+      go true h r = ap (λ l. d ∷ l) (none_mapped d xs (omega arith))
       go false h r = ap (λ l. x ∷ l) (r (omega arith))
 
   -- ---- a loop that keeps the place found so far: of the first i elements, and of one more
-  first-suc : (xs : List A) (i : ℕ) (d : A) → i < length xs → (let f = first_of (take i xs) in
+  first_suc : (xs : List A) (i : ℕ) (d : A) → i < length xs → (let f = first_of (take i xs) in
       cond (p (get_or xs i d)) f (cond (eqb f i) (suc i) f) ≡ first_of (take (suc i) xs))
   unfolding first_of
-  first-suc [] i d h = absurd (not-suc-le-zero h)
-  first-suc (x ∷ xs) zero d h = refl
-  first-suc (x ∷ xs) (suc i) d h = go (p x) (first-suc xs i d (le_of_suc-le-suc h))
+  first_suc [] i d h = absurd (not-suc-le-zero h)
+  first_suc (x ∷ xs) zero d h = refl
+  first_suc (x ∷ xs) (suc i) d h = go (p x) (first_suc xs i d (le_of_suc-le-suc h))
     where
       f : ℕ
       f = first_of (take i xs)
@@ -88,7 +88,7 @@ module _ {A : Type 0} (p : A → Bool) where
 
   pub first_more : {f : ℕ} (xs : List A) (i : ℕ) (d : A) → i < length xs → f ≡ first_of (take i xs)
       → cond (p (get_or xs i d)) f (cond (eqb f i) (i + 1) f) ≡ first_of (take (i + 1) xs)
-  first_more xs i d h e = rw (add-one, e) (first-suc xs i d h)
+  first_more xs i d h e = rw (add-one, e) (first_suc xs i d h)
 
   -- ---- a loop that stops at the first: v is its place, after i turns
   module _ (xs : List A) (i : ℕ) {v : ℕ} (w : i + first_of (drop i xs) ≡ v) where
@@ -96,14 +96,14 @@ module _ {A : Type 0} (p : A → Bool) where
     unfolding first_of
     first_next d h q r =
         ap (λ b. i + cond b 0 (suc (first_of (drop (i + 1) xs)))) (sym r ∙ q)
-        ∙ sym (ap (λ l. i + first_of l) (left-next xs i d h))
+        ∙ sym (ap (λ l. i + first_of l) (left_next xs i d h))
         ∙ w
 
     pub first_found : {b : Bool} (d : A) → i < length xs → b ≡ p (get_or xs i d) → b ≡ true → i ≡ v
     first_found d h q r = omega (arith, first_next d h q r)
 
-    pub first-passed : {b : Bool} (d : A) → i < length xs → b ≡ p (get_or xs i d) → b ≡ false → (i + 1) + first_of (drop (i + 1) xs) ≡ v
-    first-passed d h q r = omega (arith, first_next d h q r)
+    pub first_passed : {b : Bool} (d : A) → i < length xs → b ≡ p (get_or xs i d) → b ≡ false → (i + 1) + first_of (drop (i + 1) xs) ≡ v
+    first_passed d h q r = omega (arith, first_next d h q r)
 
     pub first_ended : length xs ≤ i → i ≡ v
     unfolding first_of
@@ -111,23 +111,23 @@ module _ {A : Type 0} (p : A → Bool) where
 
 -- ---- the first that is not kept: a list is kept whole exactly where there is none
 module _ {A : Type 0} (k : A → Bool) where
-  pub first-kept : (xs : List A) → first_of (λ x. not (k x)) xs ≤ length (keep k xs)
+  pub first_kept : (xs : List A) → first_of (λ x. not (k x)) xs ≤ length (keep k xs)
   unfolding first_of
-  first-kept [] = omega arith
-  first-kept (x ∷ xs) = go (k x) (first-kept xs)
+  first_kept [] = omega arith
+  first_kept (x ∷ xs) = go (k x) (first_kept xs)
     where
       go : (b : Bool) → first_of (λ x. not (k x)) xs ≤ length (keep k xs)
-          → cond (not b) 0 (suc (first_of (λ x. not (k x)) xs)) ≤ length (cons-if b x (keep k xs))
+          → cond (not b) 0 (suc (first_of (λ x. not (k x)) xs)) ≤ length (cons_if b x (keep k xs))
       go true h = omega arith
       go false h = omega arith
 
-  pub kept-first : (xs : List A) → length xs ≤ length (keep k xs) → length xs ≤ first_of (λ x. not (k x)) xs
+  pub kept_first : (xs : List A) → length xs ≤ length (keep k xs) → length xs ≤ first_of (λ x. not (k x)) xs
   unfolding first_of
-  kept-first [] h = omega arith
-  kept-first (x ∷ xs) h = go (k x) h (λ l. kept-first xs l)
+  kept_first [] h = omega arith
+  kept_first (x ∷ xs) h = go (k x) h (λ l. kept_first xs l)
     where
-      go : (b : Bool) → suc (length xs) ≤ length (cons-if b x (keep k xs))
+      go : (b : Bool) → suc (length xs) ≤ length (cons_if b x (keep k xs))
           → (length xs ≤ length (keep k xs) → length xs ≤ first_of (λ x. not (k x)) xs)
           → suc (length xs) ≤ cond (not b) 0 (suc (first_of (λ x. not (k x)) xs))
       go true h r = omega (arith, r (omega arith))
-      go false h r = absurd (omega (arith, length-keep k xs))
+      go false h r = absurd (omega (arith, length_keep k xs))

@@ -3,18 +3,18 @@
 use Rattle.std.specs.Prelude.{◌≡◌, refl, Bool, true, false, ◌&&◌, ◌||◌, List, [], ◌∷◌, ◌++◌, map, ℕ, zero, suc, ◌+◌, ◌≤◌, ◌<◌, length, take, drop, set, get_or}
 use Rattle.std.proofs.Common.{sym, ap, ap₂, ◌∙◌, append_assoc, not-suc-le-zero, le_of_suc-le-suc, add-one, arith, length-set, take-suc, take-suc-set, take_all, drop-cons}
 use Rattle.std.proofs.lemmas.List.{map-append, set_split}
-use Rattle.spec_lists.specs.Lists.{cons-if, one-if, keep, sum_of, any_of}
+use Rattle.spec_lists.specs.Lists.{cons_if, one_if, keep, sum_of, any_of}
 use Rattle.spec_lists.specs.All.{All, stop, and}
 
 -- ---- one turn, at place i; a read past the end would give d
 module _ {A : Type 0} (xs : List A) (i : ℕ) (d : A) (h : i < length xs) where
   -- what is left begins with the element
-  pub left-next : drop i xs ≡ get_or xs i d ∷ drop (i + 1) xs
-  left-next = rw add-one (drop-cons xs i d h)
+  pub left_next : drop i xs ≡ get_or xs i d ∷ drop (i + 1) xs
+  left_next = rw add-one (drop-cons xs i d h)
 
   -- what is passed ends with it
-  pub passed-next : (ys : List A) → take (i + 1) xs ++ ys ≡ take i xs ++ get_or xs i d ∷ ys
-  passed-next ys = rw (add-one, take-suc xs i d h) (append_assoc (take i xs) (get_or xs i d ∷ []) ys)
+  pub passed_next : (ys : List A) → take (i + 1) xs ++ ys ≡ take i xs ++ get_or xs i d ∷ ys
+  passed_next ys = rw (add-one, take-suc xs i d h) (append_assoc (take i xs) (get_or xs i d ∷ []) ys)
 
   pub set_next : (x : A) → set xs i x ≡ take i xs ++ x ∷ drop (i + 1) xs
   set_next x = rw add-one (set_split xs i x h)
@@ -31,13 +31,13 @@ module _ {A : Type 0} (f : A → A) where
   abbrev pub mapped : ℕ → List A → List A
   mapped i xs = map f (take i xs) ++ drop i xs
 
-  mapped-suc : (xs : List A) (i : ℕ) (d : A) → i < length xs → set (mapped i xs) i (f (get_or xs i d)) ≡ mapped (suc i) xs
-  mapped-suc [] i d h = absurd (not-suc-le-zero h)
-  mapped-suc (x ∷ xs) zero d h = refl
-  mapped-suc (x ∷ xs) (suc i) d h = ap (λ l. f x ∷ l) (mapped-suc xs i d (le_of_suc-le-suc h))
+  mapped_suc : (xs : List A) (i : ℕ) (d : A) → i < length xs → set (mapped i xs) i (f (get_or xs i d)) ≡ mapped (suc i) xs
+  mapped_suc [] i d h = absurd (not-suc-le-zero h)
+  mapped_suc (x ∷ xs) zero d h = refl
+  mapped_suc (x ∷ xs) (suc i) d h = ap (λ l. f x ∷ l) (mapped_suc xs i d (le_of_suc-le-suc h))
 
-  pub mapped-more : (xs : List A) (i : ℕ) (d : A) → i < length xs → set (mapped i xs) i (f (get_or xs i d)) ≡ mapped (i + 1) xs
-  mapped-more xs i d h = rw add-one (mapped-suc xs i d h)
+  pub mapped_more : (xs : List A) (i : ℕ) (d : A) → i < length xs → set (mapped i xs) i (f (get_or xs i d)) ≡ mapped (i + 1) xs
+  mapped_more xs i d h = rw add-one (mapped_suc xs i d h)
 
   -- the place of the turn is not replaced yet
   pub mapped_at : (xs : List A) (i : ℕ) (d : A) → i < length xs → get_or (mapped i xs) i d ≡ get_or xs i d
@@ -45,11 +45,11 @@ module _ {A : Type 0} (f : A → A) where
   mapped_at (x ∷ xs) zero d h = refl
   mapped_at (x ∷ xs) (suc i) d h = mapped_at xs i d (le_of_suc-le-suc h)
 
-  pub mapped-all : (xs : List A) (i : ℕ) → length xs ≤ i → mapped i xs ≡ map f xs
-  mapped-all [] zero h = refl
-  mapped-all [] (suc i) h = refl
-  mapped-all (x ∷ xs) zero h = absurd (not-suc-le-zero h)
-  mapped-all (x ∷ xs) (suc i) h = ap (λ l. f x ∷ l) (mapped-all xs i (le_of_suc-le-suc h))
+  pub mapped_all : (xs : List A) (i : ℕ) → length xs ≤ i → mapped i xs ≡ map f xs
+  mapped_all [] zero h = refl
+  mapped_all [] (suc i) h = refl
+  mapped_all (x ∷ xs) zero h = absurd (not-suc-le-zero h)
+  mapped_all (x ∷ xs) (suc i) h = ap (λ l. f x ∷ l) (mapped_all xs i (le_of_suc-le-suc h))
 
 -- ---- a loop that fills ys by the elements of xs, both n long: the first i are filled
 pub record Copied {A B : Type 0} (f : A → B) (xs : List A) (n : ℕ) (ys : List B) (i : ℕ) : Type 0 where
@@ -83,59 +83,59 @@ module _ {A : Type 0} (f : A → ℕ) where
   abbrev pub summed : ℕ → List A → ℕ
   summed i xs = sum_of f (take i xs)
 
-  summed-suc : (xs : List A) (i : ℕ) (d : A) → i < length xs → summed i xs + f (get_or xs i d) ≡ summed (suc i) xs
-  summed-suc [] i d h = absurd (not-suc-le-zero h)
-  summed-suc (x ∷ xs) zero d h = omega arith
-  summed-suc (x ∷ xs) (suc i) d h = omega (arith, summed-suc xs i d (le_of_suc-le-suc h))
+  summed_suc : (xs : List A) (i : ℕ) (d : A) → i < length xs → summed i xs + f (get_or xs i d) ≡ summed (suc i) xs
+  summed_suc [] i d h = absurd (not-suc-le-zero h)
+  summed_suc (x ∷ xs) zero d h = omega arith
+  summed_suc (x ∷ xs) (suc i) d h = omega (arith, summed_suc xs i d (le_of_suc-le-suc h))
 
   -- what the code has so far, and the number that it adds
-  pub summed-more : {all v : ℕ} (xs : List A) (i : ℕ) (d : A) → i < length xs → all ≡ summed i xs → v ≡ f (get_or xs i d)
+  pub summed_more : {all v : ℕ} (xs : List A) (i : ℕ) (d : A) → i < length xs → all ≡ summed i xs → v ≡ f (get_or xs i d)
       → all + v ≡ summed (i + 1) xs
-  summed-more xs i d h p q = rw (add-one, p, q) (summed-suc xs i d h)
+  summed_more xs i d h p q = rw (add-one, p, q) (summed_suc xs i d h)
 
-  pub summed-all : (xs : List A) (i : ℕ) → length xs ≤ i → summed i xs ≡ sum_of f xs
-  summed-all xs i h = ap (sum_of f) (take_all i xs h)
+  pub summed_all : (xs : List A) (i : ℕ) → length xs ≤ i → summed i xs ≡ sum_of f xs
+  summed_all xs i h = ap (sum_of f) (take_all i xs h)
 
 -- ---- a search that goes on to the end: whether one of the first i elements passes, and of one more
 module _ {A : Type 0} (p : A → Bool) where
-  any-suc : (xs : List A) (i : ℕ) (d : A) → i < length xs → (any_of p (take i xs) || p (get_or xs i d)) ≡ any_of p (take (suc i) xs)
-  any-suc [] i d h = absurd (not-suc-le-zero h)
-  any-suc (x ∷ xs) zero d h = go (p x)
+  any_suc : (xs : List A) (i : ℕ) (d : A) → i < length xs → (any_of p (take i xs) || p (get_or xs i d)) ≡ any_of p (take (suc i) xs)
+  any_suc [] i d h = absurd (not-suc-le-zero h)
+  any_suc (x ∷ xs) zero d h = go (p x)
     where
       go : (b : Bool) → b ≡ (b || false)
       go true = refl
       go false = refl
-  any-suc (x ∷ xs) (suc i) d h = go (p x) (any-suc xs i d (le_of_suc-le-suc h))
+  any_suc (x ∷ xs) (suc i) d h = go (p x) (any_suc xs i d (le_of_suc-le-suc h))
     where
       go : (b : Bool) → (any_of p (take i xs) || p (get_or xs i d)) ≡ any_of p (take (suc i) xs)
           → ((b || any_of p (take i xs)) || p (get_or xs i d)) ≡ (b || any_of p (take (suc i) xs))
       go true e = refl
       go false e = e
 
-  pub any-more : {b : Bool} (xs : List A) (i : ℕ) (d : A) → i < length xs → b ≡ any_of p (take i xs)
+  pub any_more : {b : Bool} (xs : List A) (i : ℕ) (d : A) → i < length xs → b ≡ any_of p (take i xs)
       → (b || p (get_or xs i d)) ≡ any_of p (take (i + 1) xs)
-  any-more xs i d h e = rw (add-one, e) (any-suc xs i d h)
+  any_more xs i d h e = rw (add-one, e) (any_suc xs i d h)
 
 -- ---- over all elements, where a definition speaks of those that are kept
 module _ {A : Type 0} where
-  pub any-ext : (p q : A → Bool) {xs : List A} → All (λ x. p x ≡ q x) xs → any_of p xs ≡ any_of q xs
-  any-ext p q stop = refl
-  any-ext p q (and e h) = ap₂ ◌||◌ e (any-ext p q h)
+  pub any_ext : (p q : A → Bool) {xs : List A} → All (λ x. p x ≡ q x) xs → any_of p xs ≡ any_of q xs
+  any_ext p q stop = refl
+  any_ext p q (and e h) = ap₂ ◌||◌ e (any_ext p q h)
 
-  pub any-keep : (p k : A → Bool) (xs : List A) → any_of p (keep k xs) ≡ any_of (λ x. k x && p x) xs
-  any-keep p k [] = refl
-  any-keep p k (x ∷ xs) = go (k x) (any-keep p k xs)
+  pub any_keep : (p k : A → Bool) (xs : List A) → any_of p (keep k xs) ≡ any_of (λ x. k x && p x) xs
+  any_keep p k [] = refl
+  any_keep p k (x ∷ xs) = go (k x) (any_keep p k xs)
     where
       go : (b : Bool) → any_of p (keep k xs) ≡ any_of (λ x. k x && p x) xs
-          → any_of p (cons-if b x (keep k xs)) ≡ ((b && p x) || any_of (λ x. k x && p x) xs)
+          → any_of p (cons_if b x (keep k xs)) ≡ ((b && p x) || any_of (λ x. k x && p x) xs)
       go true e = ap (λ c. p x || c) e
       go false e = e
 
-  pub length-count : (k : A → Bool) (xs : List A) → length (keep k xs) ≡ sum_of (λ x. one-if (k x)) xs
-  length-count k [] = refl
-  length-count k (x ∷ xs) = go (k x) (length-count k xs)
+  pub length_count : (k : A → Bool) (xs : List A) → length (keep k xs) ≡ sum_of (λ x. one_if (k x)) xs
+  length_count k [] = refl
+  length_count k (x ∷ xs) = go (k x) (length_count k xs)
     where
-      go : (b : Bool) → length (keep k xs) ≡ sum_of (λ x. one-if (k x)) xs
-          → length (cons-if b x (keep k xs)) ≡ one-if b + sum_of (λ x. one-if (k x)) xs
+      go : (b : Bool) → length (keep k xs) ≡ sum_of (λ x. one_if (k x)) xs
+          → length (cons_if b x (keep k xs)) ≡ one_if b + sum_of (λ x. one_if (k x)) xs
       go true e = omega arith
       go false e = omega arith

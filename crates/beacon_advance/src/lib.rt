@@ -1,7 +1,7 @@
 // The table after an interval: step F of document 01, "One beacon", first of one entry, then of all.
 ghost use Rattle.std.specs.Prelude.{◌≡◌};
 ghost use Rattle.spec_rules.specs.Ahead.{passed, renewed, settled};
-ghost use Rattle.beacon_advance.specs.Moving.{WithinAmounts, afterGrant, Movable, movedBy};
+ghost use Rattle.beacon_advance.specs.Moving.{WithinAmounts, after_grant, Movable, moved_by};
 
 use beacon_share::{Granted, Shares};
 use spec_model::{Entry, Table};
@@ -64,7 +64,7 @@ fn settled(e: Entry) -> Entry
 
 pub fn after_grant(e: Entry, g: Granted) -> Entry
     requires { WithinAmounts g e }
-    ensures { result ≡ afterGrant g e }
+    ensures { result ≡ after_grant g e }
 {
     settled(passed(e, g))
 }
@@ -74,7 +74,7 @@ pub fn after_grant(e: Entry, g: Granted) -> Entry
 // made, not two.
 pub fn advance(t: Table, used: usize, s: Shares) -> Table
     requires { Movable t used s }
-    ensures { result ≡ movedBy s t }
+    ensures { result ≡ moved_by s t }
 {
     let mut next = t;
     for i in 0..used {

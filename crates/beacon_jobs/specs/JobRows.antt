@@ -6,68 +6,68 @@ use Rattle.std.proofs.Common.{◌∙◌, arith, length-append}
 use Prim.Native.Nat.{ℕ, zero, suc, ◌-◌, ◌≤◌}
 use Rattle.std.proofs.Math.ListN.{length}
 use Rattle.std.proofs.Math.Seq.{take-append_seam}
-use Rattle.spec_lists.specs.Lists.{sum_of, concatMap}
+use Rattle.spec_lists.specs.Lists.{sum_of, concat_map}
 use Rattle.spec_lists.specs.All.{All, stop, and}
 use Rattle.base_lists.specs.All.{all_map, all_of_map, all_keep}
-use Rattle.base_lists.specs.Sums.{sum-keep-le}
-use Rattle.spec_model.specs.Entries.{freeEntry, is_held}
+use Rattle.base_lists.specs.Sums.{sum_keep_le}
+use Rattle.spec_model.specs.Entries.{free_entry, is_held}
 use Rattle.spec_model.specs.Names.{nobody}
-use Rattle.spec_model.specs.Frames.{slotsIn, headerIn}
+use Rattle.spec_model.specs.Frames.{slots_in, header_in}
 use Rattle.spec_model.specs.Tables.{places, held_of}
 use Rattle.spec_model.specs.declared.Frame.{Frame}
 use Rattle.spec_model.specs.declared.Name.{Name}
 use Rattle.spec_model.specs.declared.Entry.{Entry}
 use Rattle.spec_model.specs.declared.Table.{Table}
-use Rattle.spec_rules.specs.Share.{Grant, jobCount, stepB, stepC}
-use Rattle.spec_rules.specs.Slots.{Job, jobsFrom, jobsOf, jobNeed, jobLength, jobs, tieOrder, slotsFrom, runsFrom}
+use Rattle.spec_rules.specs.Share.{Grant, job_count, step_b, step_c}
+use Rattle.spec_rules.specs.Slots.{Job, jobs_from, jobs_of, job_need, job_length, jobs, tie_order, slots_from, runs_from}
 use Rattle.spec_rules.specs.Calls.{plan_of}
 use Rattle.spec_rules.specs.WellFormed.{Tidy}
-use Rattle.law_steps.specs.Places.{tidy-held}
-use Rattle.law_steps.specs.Closed.{slots-most}
-use Rattle.law_ahead.specs.Tables.{tidy-together}
-use Rattle.law_model.specs.Frames.{room-less}
-use Rattle.law_interval.specs.Jobs.{tie-sum, all-tie, jobs-keys}
-use Rattle.law_interval.specs.Plan.{plan-runs}
+use Rattle.law_steps.specs.Places.{tidy_held}
+use Rattle.law_steps.specs.Closed.{slots_most}
+use Rattle.law_ahead.specs.Tables.{tidy_together}
+use Rattle.law_model.specs.Frames.{room_less}
+use Rattle.law_interval.specs.Jobs.{tie_sum, all_tie, jobs_keys}
+use Rattle.law_interval.specs.Plan.{plan_runs}
 use Rattle.law_steps.specs.Ranks.{rank}
-use Rattle.table_queue.specs.Queues.{Used, jobs-few}
-use Rattle.beacon_share.specs.Shares.{sharingOf, grantOf, grants-right}
+use Rattle.table_queue.specs.Queues.{Used, jobs_few}
+use Rattle.beacon_share.specs.Shares.{sharing_of, grant_of, grants_right}
 use Rattle.beacon_share.specs.declared.Sharing.{Sharing}
-use Rattle.beacon_order.specs.Filled.{filled, filled-behind, filled-all}
+use Rattle.beacon_order.specs.Filled.{filled, filled_behind, filled_all}
 use Rattle.beacon_order.specs.Listed.{listed, order_of}
-use Rattle.beacon_order.specs.TiePlaces.{listed-ties, listed-places, listed-length}
+use Rattle.beacon_order.specs.TiePlaces.{listed_ties, listed_places_lem, listed_length}
 use Rattle.beacon_order.specs.declared.Order.{Order}
-use Rattle.beacon_plan.specs.Rows.{rowFrom, rowJobs, rowPlan, Rows, Spare}
-use Rattle.beacon_plan.specs.Needs.{needsRow, needRows, Counted, needs-map}
-use Rattle.beacon_plan.specs.RowLaws.{row-skipped, plan-skipped}
-use Rattle.beacon_plan.specs.Skipped.{Skipped, over, skipped-append, skipped-names}
-use Rattle.beacon_jobs.specs.Needs.{needBy, row_by}
-use Rattle.beacon_jobs.specs.Limits.{free-none, length-free, length-held}
-use Rattle.beacon_jobs.specs.Listing.{Listed, entry_at, rowsIn, rows-size, rows-spare}
-use Rattle.beacon_jobs.specs.Making.{Made, nameIn, lengthIn, needIn}
+use Rattle.beacon_plan.specs.Rows.{row_from, row_jobs, row_plan, Rows, Spare}
+use Rattle.beacon_plan.specs.Needs.{needs_row, need_rows, Counted, needs_map}
+use Rattle.beacon_plan.specs.RowLaws.{row_skipped, plan_skipped}
+use Rattle.beacon_plan.specs.Skipped.{Skipped, over, skipped_append, skipped_names}
+use Rattle.beacon_jobs.specs.Needs.{need_by, row_by}
+use Rattle.beacon_jobs.specs.Limits.{free_none, length_free, length_held}
+use Rattle.beacon_jobs.specs.Listing.{Listed, entry_at, rows_in, rows_size, rows_spare}
+use Rattle.beacon_jobs.specs.Making.{Made, name_in, length_in, need_in}
 
 module _ (F : Frame) (s : Sharing) (ps : List Entry) where
   abbrev rows_of : List Entry → List Job
-  rows_of os = rowJobs (map nameIn os) (map (jobLength F) os) (map (row_by s ps) os)
+  rows_of os = row_jobs (map name_in os) (map (job_length F) os) (map (row_by s ps) os)
 
   -- free places at the end
-  free-skipped : (n : ℕ) → needBy (grantOf s ps freeEntry) freeEntry ≡ 0 → Skipped (rows_of (replicate n freeEntry)) []
-  unfolding rowJobs jobsFrom
-  free-skipped zero z = over
-  free-skipped (suc n) z =
-      skipped-append
-      (subst (λ v. Skipped (rowFrom nobody (slotsIn F) 0 (needsRow 1 v)) []) (sym z) (row-skipped 0 16 nobody (slotsIn F) 0 0))
-      (free-skipped n z)
+  free_skipped : (n : ℕ) → need_by (grant_of s ps free_entry) free_entry ≡ 0 → Skipped (rows_of (replicate n free_entry)) []
+  unfolding row_jobs jobs_from
+  free_skipped zero z = over
+  free_skipped (suc n) z =
+      skipped_append
+      (subst (λ v. Skipped (row_from nobody (slots_in F) 0 (needs_row 1 v)) []) (sym z) (row_skipped 0 16 nobody (slots_in F) 0 0))
+      (free_skipped n z)
 
-  rows-skipped : (bs cs : List Grant) (n : ℕ) → needBy (grantOf s ps freeEntry) freeEntry ≡ 0
-      → {os : List Entry} → All (λ e. needBy (grantOf s ps e) e ≡ jobNeed bs cs e) os
-      → Skipped (rows_of (os ++ replicate n freeEntry)) (concatMap (jobsOf F bs cs) os)
-  unfolding rowJobs
-  rows-skipped bs cs n z stop = free-skipped n z
-  rows-skipped bs cs n z (and {x = e} q h) =
-      skipped-append
-      (subst (λ v. Skipped (rowFrom e.name (jobLength F e) 0 (needsRow (jobCount e) v)) (jobsOf F bs cs e)) (sym q)
-      (row-skipped (jobCount e) (16 - jobCount e) e.name (jobLength F e) (jobNeed bs cs e) 0))
-      (rows-skipped bs cs n z h)
+  rows_skipped : (bs cs : List Grant) (n : ℕ) → need_by (grant_of s ps free_entry) free_entry ≡ 0
+      → {os : List Entry} → All (λ e. need_by (grant_of s ps e) e ≡ job_need bs cs e) os
+      → Skipped (rows_of (os ++ replicate n free_entry)) (concat_map (jobs_of F bs cs) os)
+  unfolding row_jobs
+  rows_skipped bs cs n z stop = free_skipped n z
+  rows_skipped bs cs n z (and {x = e} q h) =
+      skipped_append
+      (subst (λ v. Skipped (row_from e.name (job_length F e) 0 (needs_row (job_count e) v)) (jobs_of F bs cs e)) (sym q)
+      (row_skipped (job_count e) (16 - job_count e) e.name (job_length F e) (job_need bs cs e) 0))
+      (rows_skipped bs cs n z h)
 
 -- ---- a table's rows
 module _ (t : Table) (w : Tidy t) where
@@ -78,53 +78,53 @@ module _ (t : Table) (w : Tidy t) where
   es = held_of t
 
   abbrev os : List Entry
-  os = filled (tieOrder es)
+  os = filled (tie_order es)
 
   abbrev sh : Sharing
-  sh = sharingOf t
+  sh = sharing_of t
 
   -- all entries have a place
-  length-sum : {A : Type 0} (xs : List A) → length xs ≡ sum_of (λ x. 1) xs
-  length-sum [] = refl
-  length-sum (x ∷ xs) = omega (arith, length-sum xs)
+  length_sum : {A : Type 0} (xs : List A) → length xs ≡ sum_of (λ x. 1) xs
+  length_sum [] = refl
+  length_sum (x ∷ xs) = omega (arith, length_sum xs)
 
-  tie-few : length (tieOrder es) ≤ places
-  tie-few =
+  tie_few : length (tie_order es) ≤ places
+  tie_few =
       omega (
         arith,
-        length-sum (tieOrder es),
-        tie-sum (tidy-held w) (λ e. 1),
-        sum-keep-le (λ (e : Entry). 1) is_held t.entries,
-        length-sum t.entries,
+        length_sum (tie_order es),
+        tie_sum (tidy_held w) (λ e. 1),
+        sum_keep_le (λ (e : Entry). 1) is_held t.entries,
+        length_sum t.entries,
         w.size,
       )
 
-  own-needs : All (λ e. needBy (grantOf sh t.entries e) e ≡ jobNeed (stepB F es) (stepC F es) e) (tieOrder es)
-  own-needs = all-tie (tidy-held w) (all_map (λ e q. ap (λ g. needBy g e) q) (grants-right t w))
+  own_needs : All (λ e. need_by (grant_of sh t.entries e) e ≡ job_need (step_b F es) (step_c F es) e) (tie_order es)
+  own_needs = all_tie (tidy_held w) (all_map (λ e q. ap (λ g. need_by g e) q) (grants_right t w))
 
-  table-skipped : Skipped (rows_of F sh t.entries os) (jobs F es)
+  table_skipped : Skipped (rows_of F sh t.entries os) (jobs F es)
   unfolding jobs
-  table-skipped =
-      subst (λ l. Skipped (rows_of F sh t.entries l) (jobs F es)) (sym (filled-behind (tieOrder es) tie-few))
-      (rows-skipped F sh t.entries (stepB F es) (stepC F es) (places - length (tieOrder es)) (free-none t w) own-needs)
+  table_skipped =
+      subst (λ l. Skipped (rows_of F sh t.entries l) (jobs F es)) (sym (filled_behind (tie_order es) tie_few))
+      (rows_skipped F sh t.entries (step_b F es) (step_c F es) (places - length (tie_order es)) (free_none t w) own_needs)
 
-  rows_fit : Rows (slotsIn F) (map nameIn os) (map (jobLength F) os) (map (row_by sh t.entries) os)
+  rows_fit : Rows (slots_in F) (map name_in os) (map (job_length F) os) (map (row_by sh t.entries) os)
   rows_fit =
       record {
-        short = slots-most t w;
-        each = all_of_map (jobLength F) (filled-all _ (length-free t w) (all-tie (tidy-held w) (length-held t w)));
-        names = skipped-names table-skipped (jobs-keys (tidy-together w));
+        short = slots_most t w;
+        each = all_of_map (job_length F) (filled_all _ (length_free t w) (all_tie (tidy_held w) (length_held t w)));
+        names = skipped_names table_skipped (jobs_keys (tidy_together w));
       }
 
-  rows-plan : rowPlan (slotsIn F) (headerIn F) (map nameIn os) (map (jobLength F) os) (map (row_by sh t.entries) os) ≡ plan_of t
+  rows_plan : row_plan (slots_in F) (header_in F) (map name_in os) (map (job_length F) os) (map (row_by sh t.entries) os) ≡ plan_of t
   unfolding plan_of
-  rows-plan =
-      plan-skipped (slotsIn F) (headerIn F) _ _ _ table-skipped
-      ∙ sym (plan-runs F es ∙ ap (λ n. runsFrom (headerIn F) (slotsFrom n (headerIn F) (jobs F es))) (room-less F))
+  rows_plan =
+      plan_skipped (slots_in F) (header_in F) _ _ _ table_skipped
+      ∙ sym (plan_runs F es ∙ ap (λ n. runs_from (header_in F) (slots_from n (header_in F) (jobs F es))) (room_less F))
 
   -- a row has room for the jobs
-  counts-few : All (λ e. jobCount e ≤ 16) os
-  counts-few = filled-all _ (omega arith) (all-tie (tidy-held w) (all_keep is_held (λ e q l. l) (jobs-few t w)))
+  counts_few : All (λ e. job_count e ≤ 16) os
+  counts_few = filled_all _ (omega arith) (all_tie (tidy_held w) (all_keep is_held (λ e q l. l) (jobs_few t w)))
 
 -- ---- rows that a program has made
 module _ (t : Table) (w : Tidy t) {n : ℕ} (u : Used n t) {o : Order} (e : o ≡ order_of (map rank t.entries) n) where
@@ -132,49 +132,49 @@ module _ (t : Table) (w : Tidy t) {n : ℕ} (u : Used n t) {o : Order} (e : o �
   ps = listed (map rank t.entries) n
 
   few : length ps ≤ places
-  few = omega (arith, listed-length t w n u.0 u.1, tie-few t w)
+  few = omega (arith, listed_length t w n u.0 u.1, tie_few t w)
 
   -- the places of the order are those listed
-  pub order-listed : Listed o
-  order-listed =
+  pub order_listed : Listed o
+  order_listed =
       rw e
       (record {
         few = few;
         room = omega (arith, length-append ps (replicate (places - length ps) 0));
-        each = rw (take-append_seam ps (replicate (places - length ps) 0)) (listed-places t w n u.0 u.1);
+        each = rw (take-append_seam ps (replicate (places - length ps) 0)) (listed_places_lem t w n u.0 u.1);
       })
 
-  rows-tied : rowsIn t o ≡ filled (tieOrder (held_of t))
-  rows-tied =
-      ap (rowsIn t) e
+  rows_tied : rows_in t o ≡ filled (tie_order (held_of t))
+  rows_tied =
+      ap (rows_in t) e
       ∙ ap (λ l. filled (map (entry_at t) l)) (take-append_seam ps (replicate (places - length ps) 0))
-      ∙ ap filled (listed-ties t w n u.0 u.1)
+      ∙ ap filled (listed_ties t w n u.0 u.1)
 
   module _ {ss : List Name} {Ts cs ns : List ℕ} (m : Made t o ss Ts cs ns) where
     -- the needs that the plan makes are the rows of the entries
-    needs-made : needRows cs ns ≡ map (row_by (sharingOf t) t.entries) (rowsIn t o)
-    needs-made = rw (m.counts, m.needs) (needs-map jobCount (needIn t) (rowsIn t o))
+    needs_made : need_rows cs ns ≡ map (row_by (sharing_of t) t.entries) (rows_in t o)
+    needs_made = rw (m.counts, m.needs) (needs_map job_count (need_in t) (rows_in t o))
 
-    pub plan-made : Rows (slotsIn t.frame) ss Ts (needRows cs ns) × (rowPlan (slotsIn t.frame) (headerIn t.frame) ss Ts (needRows cs ns) ≡ plan_of t)
-    plan-made = rw (m.names, m.lengths, needs-made, rows-tied) (rows_fit t w, rows-plan t w)
+    pub plan_made : Rows (slots_in t.frame) ss Ts (need_rows cs ns) × (row_plan (slots_in t.frame) (header_in t.frame) ss Ts (need_rows cs ns) ≡ plan_of t)
+    plan_made = rw (m.names, m.lengths, needs_made, rows_tied) (rows_fit t w, rows_plan t w)
 
-    pub spare_made : (o.count ≤ places) × Spare (slotsIn t.frame) o.count Ts (needRows cs ns)
+    pub spare_made : (o.count ≤ places) × Spare (slots_in t.frame) o.count Ts (need_rows cs ns)
     spare_made = (
-      order-listed.few,
-      rw (m.lengths, needs-made)
+      order_listed.few,
+      rw (m.lengths, needs_made)
           (record {
-            lengths = rows-spare t o order-listed (jobLength t.frame);
-            needs = subst (λ r. All (λ ns. ns ≡ r) (drop o.count (map (row_by (sharingOf t) t.entries) (rowsIn t o))))
-                (ap (needsRow 1) (free-none t w)) (rows-spare t o order-listed (row_by (sharingOf t) t.entries));
+            lengths = rows_spare t o order_listed (job_length t.frame);
+            needs = subst (λ r. All (λ ns. ns ≡ r) (drop o.count (map (row_by (sharing_of t) t.entries) (rows_in t o))))
+                (ap (needs_row 1) (free_none t w)) (rows_spare t o order_listed (row_by (sharing_of t) t.entries));
           }),
     )
 
-    pub sized-made : (length Ts ≡ places) × Counted cs ns
-    sized-made = (
-      ap length m.lengths ∙ rows-size t o order-listed (lengthIn t),
+    pub sized_made : (length Ts ≡ places) × Counted cs ns
+    sized_made = (
+      ap length m.lengths ∙ rows_size t o order_listed (length_in t),
       record {
-        counts-sized = ap length m.counts ∙ rows-size t o order-listed jobCount;
-        each-sized = ap length m.needs ∙ rows-size t o order-listed (needIn t);
-        few = rw (m.counts, rows-tied) (all_of_map jobCount (counts-few t w));
+        counts_sized = ap length m.counts ∙ rows_size t o order_listed job_count;
+        each_sized = ap length m.needs ∙ rows_size t o order_listed (need_in t);
+        few = rw (m.counts, rows_tied) (all_of_map job_count (counts_few t w));
       },
     )

@@ -1,12 +1,12 @@
 // The jobs of an interval as rows, one row for each held entry in the tie order: at most sixteen jobs of one need. The plan of a table is
 // written from them. Document 01, "One beacon", steps D and E.
 ghost use Rattle.std.specs.Prelude.{◌++◌, ◌≡◌, ◌*◌, ◌≤◌, length, drop};
-ghost use Rattle.spec_rules.specs.Records.{recordWords, planWords, words_of};
+ghost use Rattle.spec_rules.specs.Records.{record_words, plan_words, words_of};
 ghost use Rattle.spec_rules.specs.Calls.{plan_of};
 ghost use Rattle.spec_rules.specs.WellFormed.{Tidy};
 ghost use Rattle.table_queue.specs.Queues.{largest32, Queued};
-ghost use Rattle.beacon_share.specs.Shares.{sharesOf};
-ghost use Rattle.beacon_jobs.specs.Needs.{needBy};
+ghost use Rattle.beacon_share.specs.Shares.{shares_of};
+ghost use Rattle.beacon_jobs.specs.Needs.{need_by};
 
 use beacon_share::{Granted, Shares};
 use spec_model::{Entry, Slots, Table};
@@ -14,8 +14,8 @@ use table_queue::Queue;
 
 // What each job of an entry needs, by what the entry gets.
 fn need_of(e: Entry, g: Granted) -> Slots
-    requires { needBy g e ≤ largest32 }
-    ensures { result.0 ≡ needBy g e }
+    requires { need_by g e ≤ largest32 }
+    ensures { result.0 ≡ need_by g e }
 {
     let kind = e.kind;
     if kind == 1 {
@@ -28,9 +28,9 @@ fn need_of(e: Entry, g: Granted) -> Slots
 // behind are those of free places, of one job that needs nothing.
 pub fn write_jobs(t: Table, q: Queue, s: Shares, plan: &mut [u32]) -> usize
     requires tidy { Tidy t × Queued t q }
-    requires s_value { s ≡ sharesOf t }
-    requires plan_words_in_bounds { planWords ≤ length plan.old }
-    ensures { (result ≡ length (plan_of t)) × (plan.new ≡ words_of (plan_of t) ++ drop (recordWords * result) plan.old) }
+    requires s_value { s ≡ shares_of t }
+    requires plan_words_in_bounds { plan_words ≤ length plan.old }
+    ensures { (result ≡ length (plan_of t)) × (plan.new ≡ words_of (plan_of t) ++ drop (record_words * result) plan.old) }
 {
     let ranks = q.ranks;
     let o = beacon_order::ordered(ranks, q.used);

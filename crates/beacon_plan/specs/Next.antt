@@ -6,9 +6,9 @@ use Rattle.std.proofs.Math.Decide.{dec_le}
 use Rattle.spec_lists.specs.All.{All, stop, and}
 use Rattle.base_lists.specs.All.{all_map}
 use Rattle.spec_model.specs.declared.Name.{Name}
-use Rattle.spec_rules.specs.Slots.{jobAt}
+use Rattle.spec_rules.specs.Slots.{job_at}
 use Rattle.law_slots.specs.Events.{Quiet}
-use Rattle.beacon_plan.specs.Rows.{rowJobs, Length}
+use Rattle.beacon_plan.specs.Rows.{row_jobs, Length}
 use Rattle.beacon_plan.specs.RowLaws.{rows_all}
 
 -- the first release after t of a stream whose jobs are T slots long
@@ -26,22 +26,22 @@ after_is T t = add-mul (t / T) 1 T ∙ rw (one-mul T)
 pub after_more : (T t : ℕ) → 1 ≤ T → t < after T t
 after_more T t h = rw (after_is T t) (lt-div-mul-add h)
 
-pub after-most : (T t : ℕ) → after T t ≤ t + T
-after-most T t = omega (arith, after_is T t, div-mul-le_self t T)
+pub after_most : (T t : ℕ) → after T t ≤ t + T
+after_most T t = omega (arith, after_is T t, div-mul-le_self t T)
 
 pub next_more : (b t : ℕ) {Ts : List ℕ} → t < b → All (Length b) Ts → t < next_of b t Ts
 unfolding next_of
 next_more b t h stop = h
 next_more b t h (and {x = T} p r) = omega (arith, after_more T t p.some, next_more b t h r)
 
-pub next-most : (b t : ℕ) (Ts : List ℕ) → next_of b t Ts ≤ b
+pub next_most : (b t : ℕ) (Ts : List ℕ) → next_of b t Ts ≤ b
 unfolding next_of
-next-most b t [] = omega arith
-next-most b t (T ∷ Ts) = omega (arith, next-most b t Ts)
+next_most b t [] = omega arith
+next_most b t (T ∷ Ts) = omega (arith, next_most b t Ts)
 
 -- it is ahead, and not past the end
-pub next-ahead : (b t : ℕ) {Ts : List ℕ} {m : ℕ} → t < b → All (Length b) Ts → m ≡ next_of b t Ts → (t < m) × (m ≤ b)
-next-ahead b t {Ts} h q e = omega (arith, e, next_more b t h q, next-most b t Ts)
+pub next_ahead : (b t : ℕ) {Ts : List ℕ} {m : ℕ} → t < b → All (Length b) Ts → m ≡ next_of b t Ts → (t < m) × (m ≤ b)
+next_ahead b t {Ts} h q e = omega (arith, e, next_more b t h q, next_most b t Ts)
 
 -- ---- no job is released on the way
 -- a multiple of T comes by t, or not before the first after t
@@ -52,43 +52,43 @@ apart T t j =
       | no q ↦ let l : t / T + 1 ≤ j = omega arith in inr (mul-le-mul_right T l)
     ]
 
-next-all : (b t : ℕ) (Ts : List ℕ) → All (λ T. next_of b t Ts ≤ after T t) Ts
+next_all : (b t : ℕ) (Ts : List ℕ) → All (λ T. next_of b t Ts ≤ after T t) Ts
 unfolding next_of
-next-all b t [] = stop
-next-all b t (T ∷ Ts) = and {x = T} (omega arith) (all_map (λ U h. omega arith) (next-all b t Ts))
+next_all b t [] = stop
+next_all b t (T ∷ Ts) = and {x = T} (omega arith) (all_map (λ U h. omega arith) (next_all b t Ts))
 
-pub next-quiet : (b t n : ℕ) (ss : List Name) (Ts : List ℕ) (nss : List (List ℕ)) → t + n ≤ next_of b t Ts → All (Quiet n t) (rowJobs ss Ts nss)
-next-quiet b t n ss Ts nss h = rows_all ss Ts nss (all_map one (next-all b t Ts))
+pub next_quiet : (b t n : ℕ) (ss : List Name) (Ts : List ℕ) (nss : List (List ℕ)) → t + n ≤ next_of b t Ts → All (Quiet n t) (row_jobs ss Ts nss)
+next_quiet b t n ss Ts nss h = rows_all ss Ts nss (all_map one (next_all b t Ts))
   where
-    one : (T : ℕ) → next_of b t Ts ≤ after T t → (s : Name) (m j : ℕ) → Quiet n t (jobAt s T m j)
+    one : (T : ℕ) → next_of b t Ts ≤ after T t → (s : Name) (m j : ℕ) → Quiet n t (job_at s T m j)
     one T l s m j = go (apart T t j)
       where
-        go : (j * T ≤ t) ⊎ (after T t ≤ j * T) → Quiet n t (jobAt s T m j)
+        go : (j * T ≤ t) ⊎ (after T t ≤ j * T) → Quiet n t (job_at s T m j)
         go (inl q) = inl q
         go (inr q) = inr (omega arith)
 
 -- until it comes it is the next release
-pub next-same : (b t s : ℕ) (Ts : List ℕ) → t ≤ s → s < next_of b t Ts → next_of b t Ts ≡ next_of b s Ts
+pub next_same : (b t s : ℕ) (Ts : List ℕ) → t ≤ s → s < next_of b t Ts → next_of b t Ts ≡ next_of b s Ts
 unfolding next_of
-next-same b t s [] h k = refl
-next-same b t s (T ∷ Ts) h k =
+next_same b t s [] h k = refl
+next_same b t s (T ∷ Ts) h k =
     let d : s / T ≡ t / T = div-eq_of_lt-le T (le_trans (div-mul-le_self t T) h) (omega arith) in
     let r : s < next_of b t Ts = omega arith in
-    rw (d, next-same b t s Ts h r)
+    rw (d, next_same b t s Ts h r)
 
 -- ---- one row at a time
-pub next-step : (b t i n : ℕ) (Ts : List ℕ) → i < length Ts
+pub next_step : (b t i n : ℕ) (Ts : List ℕ) → i < length Ts
     → min n (next_of b t (drop i Ts)) ≡ min (min n (after (get_or Ts i 0) t)) (next_of b t (drop (i + 1) Ts))
 unfolding next_of
-next-step b t i n Ts h = rw (add-one i, drop-cons Ts i 0 h) (omega arith)
+next_step b t i n Ts h = rw (add-one i, drop-cons Ts i 0 h) (omega arith)
 
 -- rows as long as the interval have no release before the end
-next-spare : (b t : ℕ) {Ts : List ℕ} → t < b → All (λ T. T ≡ b) Ts → next_of b t Ts ≡ b
+next_spare : (b t : ℕ) {Ts : List ℕ} → t < b → All (λ T. T ≡ b) Ts → next_of b t Ts ≡ b
 unfolding next_of
-next-spare b t h stop = refl
-next-spare b t h (and {x = T} e q) =
+next_spare b t h stop = refl
+next_spare b t h (and {x = T} e q) =
     let l : b ≤ after b t = rw (div-eq_of_lt h) (omega arith) in
-    omega (arith, ap (λ U. after U t) e, next-spare b t h q)
+    omega (arith, ap (λ U. after U t) e, next_spare b t h q)
 
-pub next-end : (b t i n : ℕ) (Ts : List ℕ) → t < b → All (λ T. T ≡ b) (drop i Ts) → n ≤ b → min n (next_of b t (drop i Ts)) ≡ n
-next-end b t i n Ts h q k = omega (arith, next-spare b t h q)
+pub next_end : (b t i n : ℕ) (Ts : List ℕ) → t < b → All (λ T. T ≡ b) (drop i Ts) → n ≤ b → min n (next_of b t (drop i Ts)) ≡ n
+next_end b t i n Ts h q k = omega (arith, next_spare b t h q)

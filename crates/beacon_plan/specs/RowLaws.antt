@@ -3,45 +3,45 @@
 use Rattle.std.specs.Prelude.{◌≡◌, refl, List, [], ◌∷◌, ◌++◌, ℕ, zero, suc, ◌+◌, ◌*◌, ◌-◌, ◌≤◌, ◌<◌, ltb, length, get_or, set, drop, replicate}
 use Rattle.std.proofs.Common.{sym, ap, subst, ◌∙◌, zero-le, le_refl, arith, length-set, le-ltb}
 use Rattle.spec_lists.specs.Lists.{keep, sum_of}
-use Rattle.base_lists.specs.Tests.{one-if-most, one-if-false}
+use Rattle.base_lists.specs.Tests.{one_if_most, one_if_false}
 use Rattle.spec_lists.specs.All.{All, stop, and}
-use Rattle.base_lists.specs.All.{head, tail, all-at, all_append, all_set}
-use Rattle.base_lists.specs.Sums.{sum-append, sum-keep-le}
-use Rattle.spec_rules.specs.Slots.{Job, jobAt, jobsFrom, slotsFrom, runsFrom}
-use Rattle.law_slots.specs.Count.{toCome, ahead, few-runs, come-later}
+use Rattle.base_lists.specs.All.{head, tail, all_at, all_append, all_set}
+use Rattle.base_lists.specs.Sums.{sum_append, sum_keep_le}
+use Rattle.spec_rules.specs.Slots.{Job, job_at, jobs_from, slots_from, runs_from}
+use Rattle.law_slots.specs.Count.{to_come, ahead, few_runs_lem, come_later}
 use Rattle.spec_model.specs.Names.{nobody}
 use Rattle.spec_model.specs.Tables.{places}
 use Rattle.spec_model.specs.declared.Name.{Name}
-use Rattle.beacon_plan.specs.Rows.{fewRuns, rowFrom, rowJobs, rowPlan, Rows, unfinished}
-use Rattle.beacon_plan.specs.Skipped.{Skipped, over, skip, same, skipped-done, skipped-slots, Changed, here, there, changed-append}
-use Rattle.beacon_plan.specs.Skipped.{changed-after}
+use Rattle.beacon_plan.specs.Rows.{few_runs, row_from, row_jobs, row_plan, Rows, unfinished}
+use Rattle.beacon_plan.specs.Skipped.{Skipped, over, skip, same, skipped_done, skipped_slots, Changed, here, there, changed_append}
+use Rattle.beacon_plan.specs.Skipped.{changed_after}
 
 -- rows of sixteen jobs
 abbrev pub Wide : List (List ℕ) → Type 0
 Wide nss = All (λ (ns : List ℕ). length ns ≡ 16) nss
 
 -- a fact of every job, whatever it needs, by the lengths
-pub row-all : {P : Job → Type 0} (s : Name) (T j : ℕ) (ns : List ℕ) → ((n i : ℕ) → j ≤ i → P (jobAt s T n i)) → All P (rowFrom s T j ns)
-unfolding rowFrom
-row-all s T j [] h = stop
-row-all s T j (n ∷ ns) h = and (h n j (le_refl j)) (row-all s T (suc j) ns (λ m i l. h m i (omega arith)))
+pub row_all : {P : Job → Type 0} (s : Name) (T j : ℕ) (ns : List ℕ) → ((n i : ℕ) → j ≤ i → P (job_at s T n i)) → All P (row_from s T j ns)
+unfolding row_from
+row_all s T j [] h = stop
+row_all s T j (n ∷ ns) h = and (h n j (le_refl j)) (row_all s T (suc j) ns (λ m i l. h m i (omega arith)))
 
-pub rows_all : {P : Job → Type 0} (ss : List Name) (Ts : List ℕ) (nss : List (List ℕ)) → All (λ T. (s : Name) (n j : ℕ) → P (jobAt s T n j)) Ts
-    → All P (rowJobs ss Ts nss)
-unfolding rowJobs
+pub rows_all : {P : Job → Type 0} (ss : List Name) (Ts : List ℕ) (nss : List (List ℕ)) → All (λ T. (s : Name) (n j : ℕ) → P (job_at s T n j)) Ts
+    → All P (row_jobs ss Ts nss)
+unfolding row_jobs
 rows_all [] Ts nss h = stop
 rows_all (s ∷ ss) [] nss h = stop
 rows_all (s ∷ ss) (T ∷ Ts) [] h = stop
-rows_all (s ∷ ss) (T ∷ Ts) (ns ∷ nss) h = all_append (row-all s T 0 ns (λ n j l. head h s n j)) (rows_all ss Ts nss (tail h))
+rows_all (s ∷ ss) (T ∷ Ts) (ns ∷ nss) h = all_append (row_all s T 0 ns (λ n j l. head h s n j)) (rows_all ss Ts nss (tail h))
 
 -- ---- one need
 -- what job j of row i needs
-abbrev pub needAt : List (List ℕ) → ℕ → ℕ → ℕ
-needAt nss i j = get_or (get_or nss i []) j 0
+abbrev pub need_at : List (List ℕ) → ℕ → ℕ → ℕ
+need_at nss i j = get_or (get_or nss i []) j 0
 
 -- and if it needs v instead
-abbrev pub withNeed : List (List ℕ) → ℕ → ℕ → ℕ → List (List ℕ)
-withNeed nss i j v = set nss i (set (get_or nss i []) j v)
+abbrev pub with_need : List (List ℕ) → ℕ → ℕ → ℕ → List (List ℕ)
+with_need nss i j v = set nss i (set (get_or nss i []) j v)
 
 -- a job that needs something is one of its row
 pub in_row : (ns : List ℕ) (j : ℕ) → 1 ≤ get_or ns j 0 → j < length ns
@@ -49,105 +49,105 @@ in_row [] j h = absurd (omega arith)
 in_row (n ∷ ns) zero h = omega arith
 in_row (n ∷ ns) (suc j) h = omega (arith, in_row ns j h)
 
-pub wide-with : (nss : List (List ℕ)) (i j v : ℕ) → i < length nss → Wide nss → Wide (withNeed nss i j v)
-wide-with nss i j v h w =
-    all_set i (set (get_or nss i []) j v) (length-set (get_or nss i []) j v ∙ all-at (λ (ns : List ℕ). length ns ≡ 16) nss [] w i h) w
+pub wide_with : (nss : List (List ℕ)) (i j v : ℕ) → i < length nss → Wide nss → Wide (with_need nss i j v)
+wide_with nss i j v h w =
+    all_set i (set (get_or nss i []) j v) (length-set (get_or nss i []) j v ∙ all_at (λ (ns : List ℕ). length ns ≡ 16) nss [] w i h) w
 
 -- job j of row i
-abbrev pub jobIn : List Name → (lengths : List ℕ) (needs : List (List ℕ)) → ℕ → ℕ → Job
-jobIn ss Ts nss i j = jobAt (get_or ss i nobody) (get_or Ts i 0) (needAt nss i j) j
+abbrev pub job_in : List Name → (lengths : List ℕ) (needs : List (List ℕ)) → ℕ → ℕ → Job
+job_in ss Ts nss i j = job_at (get_or ss i nobody) (get_or Ts i 0) (need_at nss i j) j
 
-row-changed : (s : Name) (T k : ℕ) (ns : List ℕ) (j m v : ℕ) → j < length ns → m ≡ k + j
-    → Changed (jobAt s T (get_or ns j 0) m) (jobAt s T v m) (rowFrom s T k ns) (rowFrom s T k (set ns j v))
-unfolding rowFrom
-row-changed s T k [] j m v h e = absurd (omega arith)
-row-changed s T k (n ∷ ns) zero m v h e =
+row_changed : (s : Name) (T k : ℕ) (ns : List ℕ) (j m v : ℕ) → j < length ns → m ≡ k + j
+    → Changed (job_at s T (get_or ns j 0) m) (job_at s T v m) (row_from s T k ns) (row_from s T k (set ns j v))
+unfolding row_from
+row_changed s T k [] j m v h e = absurd (omega arith)
+row_changed s T k (n ∷ ns) zero m v h e =
     let q : k ≡ m = omega arith in
-    subst (λ x. Changed (jobAt s T n m) (jobAt s T v m) (jobAt s T n x ∷ rowFrom s T (suc k) ns) (jobAt s T v x ∷ rowFrom s T (suc k) ns))
+    subst (λ x. Changed (job_at s T n m) (job_at s T v m) (job_at s T n x ∷ row_from s T (suc k) ns) (job_at s T v x ∷ row_from s T (suc k) ns))
     (sym q) here
-row-changed s T k (n ∷ ns) (suc j) m v h e = there (row-changed s T (suc k) ns j m v (omega arith) (omega arith))
+row_changed s T k (n ∷ ns) (suc j) m v h e = there (row_changed s T (suc k) ns j m v (omega arith) (omega arith))
 
-pub rows-changed : (ss : List Name) (Ts : List ℕ) (nss : List (List ℕ)) (i j v : ℕ) → i < length ss → i < length Ts → i < length nss
+pub rows_changed : (ss : List Name) (Ts : List ℕ) (nss : List (List ℕ)) (i j v : ℕ) → i < length ss → i < length Ts → i < length nss
     → j < length (get_or nss i [])
-    → Changed (jobIn ss Ts nss i j) (jobAt (get_or ss i nobody) (get_or Ts i 0) v j) (rowJobs ss Ts nss) (rowJobs ss Ts (withNeed nss i j v))
-unfolding rowJobs
-rows-changed [] Ts nss i j v a b c h = absurd (omega arith)
-rows-changed (s ∷ ss) [] nss i j v a b c h = absurd (omega arith)
-rows-changed (s ∷ ss) (T ∷ Ts) [] i j v a b c h = absurd (omega arith)
-rows-changed (s ∷ ss) (T ∷ Ts) (ns ∷ nss) zero j v a b c h =
-    changed-append (rowJobs ss Ts nss) (row-changed s T 0 ns j j v h (omega arith))
-rows-changed (s ∷ ss) (T ∷ Ts) (ns ∷ nss) (suc i) j v a b c h =
-    changed-after (rowFrom s T 0 ns) (rows-changed ss Ts nss i j v (omega arith) (omega arith) (omega arith) h)
+    → Changed (job_in ss Ts nss i j) (job_at (get_or ss i nobody) (get_or Ts i 0) v j) (row_jobs ss Ts nss) (row_jobs ss Ts (with_need nss i j v))
+unfolding row_jobs
+rows_changed [] Ts nss i j v a b c h = absurd (omega arith)
+rows_changed (s ∷ ss) [] nss i j v a b c h = absurd (omega arith)
+rows_changed (s ∷ ss) (T ∷ Ts) [] i j v a b c h = absurd (omega arith)
+rows_changed (s ∷ ss) (T ∷ Ts) (ns ∷ nss) zero j v a b c h =
+    changed_append (row_jobs ss Ts nss) (row_changed s T 0 ns j j v h (omega arith))
+rows_changed (s ∷ ss) (T ∷ Ts) (ns ∷ nss) (suc i) j v a b c h =
+    changed_after (row_from s T 0 ns) (rows_changed ss Ts nss i j v (omega arith) (omega arith) (omega arith) h)
 
 -- ---- few records
 -- a job has its end and its release to come
-row-come : (s : Name) (T j : ℕ) (ns : List ℕ) → sum_of (toCome 0) (rowFrom s T j ns) ≤ length ns * 2
-unfolding rowFrom
-row-come s T j [] = zero-le
-row-come s T j (n ∷ ns) = omega (arith, one-if-most (ltb 0 n), one-if-most (ltb 0 (j * T)), row-come s T (suc j) ns)
+row_come : (s : Name) (T j : ℕ) (ns : List ℕ) → sum_of (to_come 0) (row_from s T j ns) ≤ length ns * 2
+unfolding row_from
+row_come s T j [] = zero-le
+row_come s T j (n ∷ ns) = omega (arith, one_if_most (ltb 0 n), one_if_most (ltb 0 (j * T)), row_come s T (suc j) ns)
 
 -- the first is released at 0
-first-come : (s : Name) (T : ℕ) (ns : List ℕ) → length ns ≡ 16 → sum_of (toCome 0) (rowFrom s T 0 ns) ≤ 31
-unfolding rowFrom
-first-come s T [] h = zero-le
-first-come s T (n ∷ ns) h =
-    omega (arith, one-if-most (ltb 0 n), one-if-false (le-ltb 0 (0 * T) (omega arith)), row-come s T 1 ns)
+first_come : (s : Name) (T : ℕ) (ns : List ℕ) → length ns ≡ 16 → sum_of (to_come 0) (row_from s T 0 ns) ≤ 31
+unfolding row_from
+first_come s T [] h = zero-le
+first_come s T (n ∷ ns) h =
+    omega (arith, one_if_most (ltb 0 n), one_if_false (le-ltb 0 (0 * T) (omega arith)), row_come s T 1 ns)
 
-pub rows-come : (ss : List Name) (Ts : List ℕ) (nss : List (List ℕ)) → Wide nss → ahead 0 (rowJobs ss Ts nss) ≤ 31 * length nss
-unfolding rowJobs
-rows-come [] Ts nss w = zero-le
-rows-come (s ∷ ss) [] nss w = zero-le
-rows-come (s ∷ ss) (T ∷ Ts) [] w = zero-le
-rows-come (s ∷ ss) (T ∷ Ts) (ns ∷ nss) w =
+pub rows_come : (ss : List Name) (Ts : List ℕ) (nss : List (List ℕ)) → Wide nss → ahead 0 (row_jobs ss Ts nss) ≤ 31 * length nss
+unfolding row_jobs
+rows_come [] Ts nss w = zero-le
+rows_come (s ∷ ss) [] nss w = zero-le
+rows_come (s ∷ ss) (T ∷ Ts) [] w = zero-le
+rows_come (s ∷ ss) (T ∷ Ts) (ns ∷ nss) w =
     omega (
       arith,
-      sum-append (toCome 0) (rowFrom s T 0 ns) (rowJobs ss Ts nss),
-      first-come s T ns (head w),
-      rows-come ss Ts nss (tail w),
+      sum_append (to_come 0) (row_from s T 0 ns) (row_jobs ss Ts nss),
+      first_come s T ns (head w),
+      rows_come ss Ts nss (tail w),
     )
 
-pub plan-few : {b : ℕ} (h : ℕ) {ss : List Name} {Ts : List ℕ} {nss : List (List ℕ)} → Rows b ss Ts nss → length nss ≡ places → Wide nss
-    → length (rowPlan b h ss Ts nss) ≤ fewRuns
-unfolding rowPlan
-plan-few {b} h {ss} {Ts} {nss} r l w =
-    let js : List Job = rowJobs ss Ts nss in
+pub plan_few : {b : ℕ} (h : ℕ) {ss : List Name} {Ts : List ℕ} {nss : List (List ℕ)} → Rows b ss Ts nss → length nss ≡ places → Wide nss
+    → length (row_plan b h ss Ts nss) ≤ few_runs
+unfolding row_plan
+plan_few {b} h {ss} {Ts} {nss} r l w =
+    let js : List Job = row_jobs ss Ts nss in
     omega (
       arith,
-      ap (λ cs. length (runsFrom h cs)) (skipped-slots (b - h) h (skipped-done js)),
-      few-runs (b - h) h (keep unfinished js) r.names,
-      come-later h (keep unfinished js),
-      sum-keep-le (toCome 0) unfinished js,
-      rows-come ss Ts nss w,
+      ap (λ cs. length (runs_from h cs)) (skipped_slots (b - h) h (skipped_done js)),
+      few_runs_lem (b - h) h (keep unfinished js) r.names,
+      come_later h (keep unfinished js),
+      sum_keep_le (to_come 0) unfinished js,
+      rows_come ss Ts nss w,
     )
 
 -- ---- rows that need nothing
-needs-none : {nss : List (List ℕ)} → All (λ ns. ns ≡ replicate 16 0) nss → (i j : ℕ) → needAt nss i j ≤ 0
-needs-none stop i j = zero-le
-needs-none (and e q) zero j = omega (arith, ap (λ ns. get_or ns j 0) e, getD-zeros 16 j)
+needs_none : {nss : List (List ℕ)} → All (λ ns. ns ≡ replicate 16 0) nss → (i j : ℕ) → need_at nss i j ≤ 0
+needs_none stop i j = zero-le
+needs_none (and e q) zero j = omega (arith, ap (λ ns. get_or ns j 0) e, get_d_zeros 16 j)
   where
-    getD-zeros : (n j : ℕ) → get_or (replicate n 0) j 0 ≤ 0
-    getD-zeros zero j = zero-le
-    getD-zeros (suc n) zero = zero-le
-    getD-zeros (suc n) (suc j) = getD-zeros n j
-needs-none (and e q) (suc i) j = needs-none q i j
+    get_d_zeros : (n j : ℕ) → get_or (replicate n 0) j 0 ≤ 0
+    get_d_zeros zero j = zero-le
+    get_d_zeros (suc n) zero = zero-le
+    get_d_zeros (suc n) (suc j) = get_d_zeros n j
+needs_none (and e q) (suc i) j = needs_none q i j
 
 -- where the rows from one on need nothing, a row that needs something stands before it, so its change changes none of them
-pub spare-set : (rows : ℕ) (nss : List (List ℕ)) (i j : ℕ) (ns : List ℕ) → 1 ≤ needAt nss i j
+pub spare_set : (rows : ℕ) (nss : List (List ℕ)) (i j : ℕ) (ns : List ℕ) → 1 ≤ need_at nss i j
     → All (λ ms. ms ≡ replicate 16 0) (drop rows nss) → All (λ ms. ms ≡ replicate 16 0) (drop rows (set nss i ns))
-spare-set zero nss i j ns h q = absurd (omega (arith, needs-none q i j))
-spare-set (suc r) [] i j ns h q = stop
-spare-set (suc r) (ms ∷ nss) zero j ns h q = q
-spare-set (suc r) (ms ∷ nss) (suc i) j ns h q = spare-set r nss i j ns h q
+spare_set zero nss i j ns h q = absurd (omega (arith, needs_none q i j))
+spare_set (suc r) [] i j ns h q = stop
+spare_set (suc r) (ms ∷ nss) zero j ns h q = q
+spare_set (suc r) (ms ∷ nss) (suc i) j ns h q = spare_set r nss i j ns h q
 
 -- ---- other jobs
 -- a row of n equal needs, and m zeros after them, is n jobs; a row of zeros is none
-pub row-skipped : (n m : ℕ) (s : Name) (T need j : ℕ) → Skipped (rowFrom s T j (replicate n need ++ replicate m 0)) (jobsFrom n s T need j)
-unfolding rowFrom jobsFrom
-row-skipped zero zero s T need j = over
-row-skipped zero (suc m) s T need j = skip refl (row-skipped zero m s T need (suc j))
-row-skipped (suc n) m s T need j = same (row-skipped n m s T need (suc j))
+pub row_skipped : (n m : ℕ) (s : Name) (T need j : ℕ) → Skipped (row_from s T j (replicate n need ++ replicate m 0)) (jobs_from n s T need j)
+unfolding row_from jobs_from
+row_skipped zero zero s T need j = over
+row_skipped zero (suc m) s T need j = skip refl (row_skipped zero m s T need (suc j))
+row_skipped (suc n) m s T need j = same (row_skipped n m s T need (suc j))
 
-pub plan-skipped : (b h : ℕ) (ss : List Name) (Ts : List ℕ) (nss : List (List ℕ)) {js : List Job} → Skipped (rowJobs ss Ts nss) js
-    → rowPlan b h ss Ts nss ≡ runsFrom h (slotsFrom (b - h) h js)
-unfolding rowPlan
-plan-skipped b h ss Ts nss w = ap (runsFrom h) (skipped-slots (b - h) h w)
+pub plan_skipped : (b h : ℕ) (ss : List Name) (Ts : List ℕ) (nss : List (List ℕ)) {js : List Job} → Skipped (row_jobs ss Ts nss) js
+    → row_plan b h ss Ts nss ≡ runs_from h (slots_from (b - h) h js)
+unfolding row_plan
+plan_skipped b h ss Ts nss w = ap (runs_from h) (skipped_slots (b - h) h w)

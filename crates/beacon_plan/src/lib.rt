@@ -4,17 +4,17 @@
 // change where it ends. A turn ends a job, or comes to a release or to the end: there are at most 993 of them (specs/Turns.antt).
 ghost use Rattle.std.specs.Prelude.{◌≡◌, [], ◌++◌, map, ◌+◌, ◌*◌, ◌-◌, ◌≤◌, ◌<◌, min, length, drop, get_or, set, replicate};
 ghost use Rattle.spec_lists.specs.All.{All};
-ghost use Rattle.spec_model.specs.Frames.{slotsIn, headerIn};
+ghost use Rattle.spec_model.specs.Frames.{slots_in, header_in};
 ghost use Rattle.spec_model.specs.Tables.{places};
-ghost use Rattle.spec_rules.specs.Records.{recordWords, mostRecords, planWords, words_of};
-ghost use Rattle.law_model.specs.Frames.{mostSlots};
-ghost use Rattle.beacon_plan.specs.Rows.{Length, Rows, Padded, Spare, rowPlan};
-ghost use Rattle.beacon_plan.specs.Needs.{Counted, needsRow, needRows};
-ghost use Rattle.beacon_plan.specs.RowLaws.{Wide, withNeed};
-ghost use Rattle.beacon_plan.specs.Heads.{firstLeft};
-ghost use Rattle.beacon_plan.specs.Kept.{Firsts, headNeed};
+ghost use Rattle.spec_rules.specs.Records.{record_words, most_records, plan_words, words_of};
+ghost use Rattle.law_model.specs.Frames.{most_slots};
+ghost use Rattle.beacon_plan.specs.Rows.{Length, Rows, Padded, Spare, row_plan};
+ghost use Rattle.beacon_plan.specs.Needs.{Counted, needs_row, need_rows};
+ghost use Rattle.beacon_plan.specs.RowLaws.{Wide, with_need};
+ghost use Rattle.beacon_plan.specs.Heads.{first_left};
+ghost use Rattle.beacon_plan.specs.Kept.{Firsts, head_need};
 ghost use Rattle.beacon_plan.specs.Next.{next_of};
-ghost use Rattle.beacon_plan.specs.Places.{Short, noRelease, releaseOf, releasesOf, chosenAt};
+ghost use Rattle.beacon_plan.specs.Places.{Short, no_release, release_of, releases_of, chosen_at};
 
 use spec_model::{Frame, Name, Slots};
 
@@ -23,7 +23,7 @@ const NO_RELEASE: u32 = 4294967295;
 
 // The first release after t of any row's jobs; at most b, the end. Rows as long as the interval release none before it.
 fn next_release(b: Slots, rows: usize, lengths: &[u32; 32], t: Slots) -> Slots
-    requires t_lt_b { (t.0 < b.0) × ((b.0 ≤ mostSlots) × All (Length b.0) lengths.now) }
+    requires t_lt_b { (t.0 < b.0) × ((b.0 ≤ most_slots) × All (Length b.0) lengths.now) }
     requires padded { Padded rows b.0 lengths.now }
     ensures { result.0 ≡ next_of b.0 t.0 lengths.now }
 {
@@ -38,7 +38,7 @@ fn next_release(b: Slots, rows: usize, lengths: &[u32; 32], t: Slots) -> Slots
 
 // The same; the one found last still is the next while it is ahead, so that it is looked for only where one has come.
 fn next_after(b: Slots, rows: usize, lengths: &[u32; 32], t: Slots, next: Slots) -> Slots
-    requires t_lt_b { (t.0 < b.0) × ((b.0 ≤ mostSlots) × All (Length b.0) lengths.now) }
+    requires t_lt_b { (t.0 < b.0) × ((b.0 ≤ most_slots) × All (Length b.0) lengths.now) }
     requires next_value { t.0 < next.0 → next.0 ≡ next_of b.0 t.0 lengths.now }
     requires padded { Padded rows b.0 lengths.now }
     ensures { result.0 ≡ next_of b.0 t.0 lengths.now }
@@ -53,7 +53,7 @@ fn next_after(b: Slots, rows: usize, lengths: &[u32; 32], t: Slots, next: Slots)
 fn fill_row(needs: &mut [[u32; 16]; 32], k: usize, count: u32, need: Slots)
     requires k_lt_places { (k < places) × ((length needs.old ≡ places) × (count ≤ 16)) }
     requires k_value { get_or needs.old k [] ≡ replicate 16 0 }
-    ensures { needs.new ≡ set needs.old k (needsRow count need.0) }
+    ensures { needs.new ≡ set needs.old k (needs_row count need.0) }
 {
     let n = count as usize;
     for j in 0..n {
@@ -64,8 +64,8 @@ fn fill_row(needs: &mut [[u32; 16]; 32], k: usize, count: u32, need: Slots)
 // The same in each row; those behind the first rows need nothing.
 fn fill_rows(needs: &mut [[u32; 16]; 32], rows: usize, counts: &[u32; 32], each: &[u32; 32])
     requires needs_value { (needs.old ≡ replicate places (replicate 16 0)) × Counted counts.now each.now }
-    requires padded { Padded rows (replicate 16 0) (needRows counts.now each.now) }
-    ensures { needs.new ≡ needRows counts.now each.now }
+    requires padded { Padded rows (replicate 16 0) (need_rows counts.now each.now) }
+    ensures { needs.new ≡ need_rows counts.now each.now }
 {
     for i in 0..rows {
         fill_row(needs, i, counts[i], Slots(each[i]));
@@ -74,7 +74,7 @@ fn fill_rows(needs: &mut [[u32; 16]; 32], rows: usize, counts: &[u32; 32], each:
 
 // The number of a row's first unfinished job; 16 where there is none.
 fn first_left(row: [u32; 16]) -> usize
-    ensures { result ≡ firstLeft row }
+    ensures { result ≡ first_left row }
 {
     for j in 0..16 {
         if 0 < row[j] {
@@ -87,7 +87,7 @@ fn first_left(row: [u32; 16]) -> usize
 // The same of each row; those behind the first rows need nothing.
 fn fill_heads(heads: &mut [usize; 32], rows: usize, needs: &[[u32; 16]; 32])
     requires { (heads.old ≡ replicate places 16) × Padded rows (replicate 16 0) needs.now }
-    ensures { heads.new ≡ map firstLeft needs.now }
+    ensures { heads.new ≡ map first_left needs.now }
 {
     for i in 0..rows {
         let row = needs[i];
@@ -97,8 +97,8 @@ fn fill_heads(heads: &mut [usize; 32], rows: usize, needs: &[[u32; 16]; 32])
 
 // When a row's first unfinished job is released, where each is so many slots long; NO_RELEASE where it has none.
 fn release_of(length: Slots, job: usize) -> Slots
-    requires { length.0 ≤ mostSlots }
-    ensures { result.0 ≡ releaseOf length.0 job }
+    requires { length.0 ≤ most_slots }
+    ensures { result.0 ≡ release_of length.0 job }
 {
     if 16 <= job {
         return Slots(NO_RELEASE);
@@ -108,9 +108,9 @@ fn release_of(length: Slots, job: usize) -> Slots
 
 // The same of each row; those behind the first rows have none.
 fn fill_releases(releases: &mut [u32; 32], rows: usize, lengths: &[u32; 32], heads: &[usize; 32])
-    requires releases_value { (releases.old ≡ replicate places noRelease) × ((length lengths.now ≡ places) × Short lengths.now) }
+    requires releases_value { (releases.old ≡ replicate places no_release) × ((length lengths.now ≡ places) × Short lengths.now) }
     requires padded { Padded rows 16 heads.now }
-    ensures { releases.new ≡ releasesOf lengths.now heads.now }
+    ensures { releases.new ≡ releases_of lengths.now heads.now }
 {
     for i in 0..rows {
         let release = release_of(Slots(lengths[i]), heads[i]);
@@ -120,9 +120,9 @@ fn fill_releases(releases: &mut [u32; 32], rows: usize, lengths: &[u32; 32], hea
 
 // The place of the job that slot t goes to: of those due first the first; no place where the slot is idle.
 fn choose_place(t: Slots, rows: usize, lengths: &[u32; 32], releases: &[u32; 32]) -> usize
-    requires t_le_most_slots { (t.0 ≤ mostSlots) × ((length lengths.now ≡ places) × Short lengths.now) }
-    requires padded { Padded rows noRelease releases.now }
-    ensures { result ≡ chosenAt t.0 lengths.now releases.now }
+    requires t_le_most_slots { (t.0 ≤ most_slots) × ((length lengths.now ≡ places) × Short lengths.now) }
+    requires padded { Padded rows no_release releases.now }
+    ensures { result ≡ chosen_at t.0 lengths.now releases.now }
 {
     let mut place = spec_model::NO_PLACE;
     let mut best = NO_RELEASE;
@@ -150,10 +150,10 @@ fn run_job(
 ) -> Slots
     requires i_lt_places { (i < places) × ((length lengths.now ≡ places) × Short lengths.now) }
     requires left_len { (length left.old ≡ places) × Wide left.old }
-    requires firsts { Firsts lengths.now left.old heads.old releases.old × (1 ≤ headNeed left.old heads.old i) }
-    ensures { let need = headNeed left.old heads.old i in
+    requires firsts { Firsts lengths.now left.old heads.old releases.old × (1 ≤ head_need left.old heads.old i) }
+    ensures { let need = head_need left.old heads.old i in
         (result.0 ≡ min need most.0)
-        × ((left.new ≡ withNeed left.old i (get_or heads.old i 0) (need - result.0))
+        × ((left.new ≡ with_need left.old i (get_or heads.old i 0) (need - result.0))
         × Firsts lengths.now left.new heads.new releases.new) }
 {
     let j = heads[i];
@@ -182,13 +182,13 @@ pub fn write_plan(
     each: &[u32; 32],
     plan: &mut [u32],
 ) -> usize
-    requires rows { Rows (slotsIn f) names lengths.now (needRows counts.now each.now)
-        × ((planWords ≤ length plan.old) × (headerIn f ≤ slotsIn f)) }
-    requires rows_le_places { (rows ≤ places) × Spare (slotsIn f) rows lengths.now (needRows counts.now each.now) }
+    requires rows { Rows (slots_in f) names lengths.now (need_rows counts.now each.now)
+        × ((plan_words ≤ length plan.old) × (header_in f ≤ slots_in f)) }
+    requires rows_le_places { (rows ≤ places) × Spare (slots_in f) rows lengths.now (need_rows counts.now each.now) }
     requires lengths_len { (length lengths.now ≡ places) × Counted counts.now each.now }
-    ensures { let needs = needRows counts.now each.now in
-        let runs = rowPlan (slotsIn f) (headerIn f) names lengths.now needs in
-        (result ≡ length runs) × ((result ≤ mostRecords) × (plan.new ≡ words_of runs ++ drop (recordWords * result) plan.old)) }
+    ensures { let needs = need_rows counts.now each.now in
+        let runs = row_plan (slots_in f) (header_in f) names lengths.now needs in
+        (result ≡ length runs) × ((result ≤ most_records) × (plan.new ≡ words_of runs ++ drop (record_words * result) plan.old)) }
 {
     let b = f.slots;
     let mut left = [[0u32; 16]; spec_model::PLACES];

@@ -6,8 +6,8 @@ ghost use Rattle.spec_lists.specs.All.{All};
 ghost use Rattle.base_lists.specs.Spare.{Spare};
 ghost use Rattle.spec_model.specs.Tables.{places};
 ghost use Rattle.spec_rules.specs.Share.{extra};
-ghost use Rattle.table_queue.specs.Queues.{owedBelow, piece_of, pieces_of, Queueing, Bounded};
-ghost use Rattle.beacon_share.specs.Shares.{roomsBy, weightBy, grantsBy, limitsAmong, sharesBy, noShares};
+ghost use Rattle.table_queue.specs.Queues.{owed_below, piece_of, pieces_of, Queueing, Bounded};
+ghost use Rattle.beacon_share.specs.Shares.{rooms_by, weight_by, grants_by, limits_among, shares_by, no_shares};
 
 use spec_model::{Frame, Slots};
 use table_queue::Queue;
@@ -52,7 +52,7 @@ fn owed_if_lower(owed: Slots, rank: u64, own: u64) -> Slots
 // What is owed at lower ranks than one's own.
 fn owed_below(ranks: &[u64], owed: &[u32], used: usize, own: u64) -> u64
     requires { Queueing ranks.now owed.now used }
-    ensures { result ≡ owedBelow own ranks.now owed.now }
+    ensures { result ≡ owed_below own ranks.now owed.now }
 {
     let mut all: u64 = 0;
     for i in 0..used {
@@ -111,7 +111,7 @@ fn weight_of(jobs: u32, room: Slots) -> u64
 fn whole_weight(used: usize, limits: &[u32; 32], jobs: &[u32; 32], pieces: &[u32; 32]) -> u64
     requires used_le_places { (used ≤ places) × (Spare 0 used limits.now × All (λ m. m ≤ 16) jobs.now) }
     requires limits_len { (length limits.now ≡ places) × ((length jobs.now ≡ places) × (length pieces.now ≡ places)) }
-    ensures { result ≡ weightBy jobs.now (roomsBy limits.now pieces.now) }
+    ensures { result ≡ weight_by jobs.now (rooms_by limits.now pieces.now) }
 {
     let mut weight: u64 = 0;
     for i in 0..used {
@@ -140,7 +140,7 @@ pub struct Granted {
 fn grants_of(used: usize, limits: &[u32; 32], pieces: &[u32; 32], s: Sharing) -> [Granted; 32]
     requires used_le_places { (used ≤ places) × (Spare 0 used limits.now × Spare 0 used pieces.now) }
     requires limits_len { (length limits.now ≡ places) × (length pieces.now ≡ places) }
-    ensures { result ≡ grantsBy s.remains.0 s.weight limits.now pieces.now }
+    ensures { result ≡ grants_by s.remains.0 s.weight limits.now pieces.now }
 {
     let none = Slots(0);
     let nothing = Granted {
@@ -166,7 +166,7 @@ pub struct Shares {
 
 // Nothing for any place.
 pub fn no_shares() -> Shares
-    ensures { result ≡ noShares }
+    ensures { result ≡ no_shares }
 {
     let idle = Slots(0);
     let nothing = Granted {
@@ -190,7 +190,7 @@ fn piece_limit(jobs: u32, limit: Slots) -> Slots
 
 fn piece_limits(used: usize, jobs: &[u32; 32], limits: &[u32; 32]) -> [u32; 32]
     requires { (used ≤ places) × (Spare 0 used limits.now × ((length jobs.now ≡ places) × (length limits.now ≡ places))) }
-    ensures { result ≡ limitsAmong false jobs.now limits.now }
+    ensures { result ≡ limits_among false jobs.now limits.now }
 {
     let mut kept = [0u32; spec_model::PLACES];
     for i in 0..used {
@@ -204,7 +204,7 @@ fn piece_limits(used: usize, jobs: &[u32; 32], limits: &[u32; 32]) -> [u32; 32]
 // owed, or the whole capacity: what remains is the capacity less all that is owed.
 pub fn shares_of(f: Frame, q: Queue, fractions: bool) -> Shares
     requires { Bounded q }
-    ensures { result ≡ sharesBy f fractions q }
+    ensures { result ≡ shares_by f fractions q }
 {
     let used = q.used;
     let ranks = q.ranks;

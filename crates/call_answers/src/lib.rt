@@ -1,8 +1,8 @@
 // The document's number of each answer: document 01, "Where each refusal is checked". A call answers with an enum of crate spec_model; whoever shows the answer asks for its number. The window, the calls on
 // a lent table and the program answer with numbers, which have their names here.
 ghost use Rattle.std.specs.Prelude.{◌≡◌};
-ghost use Rattle.spec_model.specs.Answers.{offerNumber};
-ghost use Rattle.spec_model.specs.Numbers.{openNumber, heldNumber, beaconNumber};
+ghost use Rattle.spec_model.specs.Answers.{offer_number};
+ghost use Rattle.spec_model.specs.Numbers.{open_number, held_number, beacon_number};
 
 use spec_model::{BeaconAnswer, HeldAnswer, OfferAnswer, OpenAnswer};
 
@@ -32,7 +32,7 @@ pub const NO_TABLE: u32 = 51;
 
 // ---- the number of each
 pub fn open_number(answer: OpenAnswer) -> u32
-    ensures { result ≡ openNumber answer }
+    ensures { result ≡ open_number answer }
 {
     match answer {
         OpenAnswer::Opened => DONE,
@@ -42,7 +42,7 @@ pub fn open_number(answer: OpenAnswer) -> u32
 }
 
 pub fn offer_number(answer: OfferAnswer) -> u32
-    ensures { result ≡ offerNumber answer }
+    ensures { result ≡ offer_number answer }
 {
     match answer {
         OfferAnswer::Accepted => DONE,
@@ -58,7 +58,7 @@ pub fn offer_number(answer: OfferAnswer) -> u32
 }
 
 pub fn held_number(answer: HeldAnswer) -> u32
-    ensures { result ≡ heldNumber answer }
+    ensures { result ≡ held_number answer }
 {
     match answer {
         HeldAnswer::Held => DONE,
@@ -67,7 +67,7 @@ pub fn held_number(answer: HeldAnswer) -> u32
 }
 
 pub fn beacon_number(answer: BeaconAnswer) -> u32
-    ensures { result ≡ beaconNumber answer }
+    ensures { result ≡ beacon_number answer }
 {
     match answer {
         BeaconAnswer::Planned => DONE,

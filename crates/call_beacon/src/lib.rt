@@ -1,7 +1,7 @@
 // Beacons: document 01, "Where each refusal is checked", `beacon`, and "One beacon". The plan of the interval is written to lent memory;
 // the call by value gives back the table after it, and a caller that changes its table in its place moves it on itself.
 ghost use Rattle.std.specs.Prelude.{◌≡◌};
-ghost use Rattle.spec_model.specs.Numbers.{beaconNumber};
+ghost use Rattle.spec_model.specs.Numbers.{beacon_number};
 ghost use Rattle.spec_rules.specs.Calls.{beacon};
 ghost use Rattle.spec_rules.specs.WellFormed.{WellFormed};
 ghost use Rattle.call_beacon.specs.Moves.{Moves};
@@ -43,7 +43,7 @@ fn unplanned(answer: BeaconAnswer) -> Planned
 pub fn plan_interval(t: Table, plan: &mut [u32]) -> Planned
     requires { WellFormed t }
     ensures { let b = beacon t plan.old in
-        (beaconNumber result.answer ≡ b.answer) × ((result.count ≡ b.count) × ((plan.new ≡ b.words)
+        (beacon_number result.answer ≡ b.answer) × ((result.count ≡ b.count) × ((plan.new ≡ b.words)
         × Moves t result.used result.shares b.table)) }
 {
     if plan.len() < spec_model::PLAN_WORDS {
@@ -71,7 +71,7 @@ pub fn plan_interval(t: Table, plan: &mut [u32]) -> Planned
 pub fn beacon(t: Table, plan: &mut [u32]) -> Beaconing
     requires { WellFormed t }
     ensures { let b = beacon t plan.old in
-        (beaconNumber result.answer ≡ b.answer) × ((result.count ≡ b.count) × ((result.table ≡ b.table) × (plan.new ≡ b.words))) }
+        (beacon_number result.answer ≡ b.answer) × ((result.count ≡ b.count) × ((result.table ≡ b.table) × (plan.new ≡ b.words))) }
 {
     let p = plan_interval(t, plan);
     let answer = p.answer;

@@ -1,11 +1,11 @@
 // Withdrawals and enquiries: document 01, "Where each refusal is checked", `withdraw` and `enquire`. Both go by the place of a name.
 ghost use Rattle.std.specs.Prelude.{cond, ◌≡◌, ltb};
-ghost use Rattle.spec_model.specs.Entries.{freeEntry};
-ghost use Rattle.spec_rules.specs.Calls.{heldAnswer, withdrawn};
+ghost use Rattle.spec_model.specs.Entries.{free_entry};
+ghost use Rattle.spec_rules.specs.Calls.{held_answer, withdrawn};
 ghost use Rattle.spec_rules.specs.Reading.{enquired};
 ghost use Rattle.spec_rules.specs.WellFormed.{WellFormed};
-ghost use Rattle.spec_model.specs.Numbers.{heldNumber};
-ghost use Rattle.spec_model.specs.Tables.{places, putIn};
+ghost use Rattle.spec_model.specs.Numbers.{held_number};
+ghost use Rattle.spec_model.specs.Tables.{places, put_in};
 
 use spec_model::{Entry, HeldAnswer, Name, Table};
 
@@ -18,7 +18,7 @@ pub struct Withdrawal {
 
 // No place, `spec_model::NO_PLACE`, is past the last.
 fn held_at(at: usize) -> HeldAnswer
-    ensures { heldNumber result ≡ cond (ltb at places) 0 20 }
+    ensures { held_number result ≡ cond (ltb at places) 0 20 }
 {
     if at < spec_model::PLACES {
         return HeldAnswer::Held;
@@ -35,7 +35,7 @@ pub struct Released {
 
 pub fn release(t: Table, name: Name) -> Released
     requires { WellFormed t }
-    ensures { (heldNumber result.answer ≡ heldAnswer t name) × (putIn t result.place freeEntry ≡ withdrawn t name) }
+    ensures { (held_number result.answer ≡ held_answer t name) × (put_in t result.place free_entry ≡ withdrawn t name) }
 {
     let place = table_places::place_of(t, name);
     let answer = held_at(place);
@@ -44,7 +44,7 @@ pub fn release(t: Table, name: Name) -> Released
 
 pub fn withdraw(t: Table, name: Name) -> Withdrawal
     requires { WellFormed t }
-    ensures { (heldNumber result.answer ≡ heldAnswer t name) × (result.table ≡ withdrawn t name) }
+    ensures { (held_number result.answer ≡ held_answer t name) × (result.table ≡ withdrawn t name) }
 {
     let r = release(t, name);
     let answer = r.answer;
@@ -62,7 +62,7 @@ pub struct Enquiry {
 
 pub fn enquire(t: Table, name: Name) -> Enquiry
     requires { WellFormed t }
-    ensures { (heldNumber result.answer ≡ heldAnswer t name) × (result.entry ≡ enquired t name) }
+    ensures { (held_number result.answer ≡ held_answer t name) × (result.entry ≡ enquired t name) }
 {
     let found = table_places::place_of(t, name);
     let answer = held_at(found);

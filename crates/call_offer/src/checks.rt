@@ -1,17 +1,17 @@
 // An offer's checks one after the other, but for looking ahead, and the entry that it becomes.
 ghost use Rattle.std.specs.Prelude.{true, ◌≡◌, eqb, leb};
 ghost use Rattle.spec_model.specs.Requests.{refusal};
-ghost use Rattle.spec_model.specs.Answers.{offerNumber};
+ghost use Rattle.spec_model.specs.Answers.{offer_number};
 ghost use Rattle.spec_model.specs.Entries.{entry_of};
-ghost use Rattle.spec_model.specs.Names.{nameInRange};
-ghost use Rattle.spec_model.specs.Tables.{mostHeld};
-ghost use Rattle.law_steps.specs.Offers.{offerChecksBut};
+ghost use Rattle.spec_model.specs.Names.{name_in_range};
+ghost use Rattle.spec_model.specs.Tables.{most_held};
+ghost use Rattle.law_steps.specs.Offers.{offer_checks_but};
 
 use spec_model::{Entry, Frame, Intervals, OfferAnswer, Request, Slots};
 use table_survey::Survey;
 
 pub fn is_accepted(answer: OfferAnswer) -> bool
-    ensures { result ≡ eqb (offerNumber answer) 0 }
+    ensures { result ≡ eqb (offer_number answer) 0 }
 {
     match answer {
         OfferAnswer::Accepted => true,
@@ -49,8 +49,8 @@ pub fn entry_of(q: Request) -> Entry
 
 // The first of refusals 11 to 16 that applies, or Accepted where none does.
 pub fn first_refusal(f: Frame, s: Survey, q: Request) -> OfferAnswer
-    requires { nameInRange q.name ≡ true }
-    ensures { offerNumber result ≡ refusal (offerChecksBut s.taken (leb mostHeld s.free) f q) }
+    requires { name_in_range q.name ≡ true }
+    ensures { offer_number result ≡ refusal (offer_checks_but s.taken (leb most_held s.free) f q) }
 {
     if s.taken {
         return OfferAnswer::StreamHeld;

@@ -1,11 +1,11 @@
 // Offers: document 01, "Where each refusal is checked", `offer`. An offer is decided on a table that is only read: a caller that changes
 // its table in its place puts the entry there itself, and the call by value gives back the table after it.
 ghost use Rattle.std.specs.Prelude.{◌≡◌};
-ghost use Rattle.spec_model.specs.Answers.{offerNumber};
-ghost use Rattle.spec_model.specs.Entries.{freeEntry};
-ghost use Rattle.spec_model.specs.Tables.{noPlace, putIn};
+ghost use Rattle.spec_model.specs.Answers.{offer_number};
+ghost use Rattle.spec_model.specs.Entries.{free_entry};
+ghost use Rattle.spec_model.specs.Tables.{no_place, put_in};
 ghost use Rattle.spec_model.specs.declared.Request.{Request};
-ghost use Rattle.spec_rules.specs.Calls.{offerAnswer, offered};
+ghost use Rattle.spec_rules.specs.Calls.{offer_answer, offered};
 ghost use Rattle.spec_rules.specs.WellFormed.{WellFormed};
 
 mod checks; // checks.rt: an offer's checks but for looking ahead, and the entry that it becomes
@@ -28,7 +28,7 @@ pub struct Decision {
 
 // Refused, an offer puts nothing in the table.
 fn refused(answer: OfferAnswer) -> Decision
-    ensures { result ≡ record { answer = answer; place = noPlace; entry = freeEntry } }
+    ensures { result ≡ record { answer = answer; place = no_place; entry = free_entry } }
 {
     let entry = spec_model::free_entry();
     Decision {
@@ -42,7 +42,7 @@ fn refused(answer: OfferAnswer) -> Decision
 // header the header test adds nothing to the rest of looking ahead, and is not made.
 pub fn decide(t: Table, q: Request) -> Decision
     requires { WellFormed t }
-    ensures { (offerNumber result.answer ≡ offerAnswer t q) × (putIn t result.place result.entry ≡ offered t q) }
+    ensures { (offer_number result.answer ≡ offer_answer t q) × (put_in t result.place result.entry ≡ offered t q) }
 {
     let name = q.name;
     if !name.in_range() {
@@ -89,7 +89,7 @@ pub fn offer(
 ) -> Offering
     requires { WellFormed t }
     ensures { let q : Request = record { name = name; kind = kind; period = period; min = min; max = max; life = life } in
-        (offerNumber result.answer ≡ offerAnswer t q) × (result.table ≡ offered t q) }
+        (offer_number result.answer ≡ offer_answer t q) × (result.table ≡ offered t q) }
 {
     let q = Request {
         name,

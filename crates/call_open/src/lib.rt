@@ -1,8 +1,8 @@
 // Openings: document 01, "Where each refusal is checked", `open`; document 02, No. 1.
 ghost use Rattle.std.specs.Prelude.{cond, ◌≡◌, eqb};
-ghost use Rattle.spec_model.specs.Numbers.{openNumber};
-ghost use Rattle.spec_model.specs.Tables.{noneHeld, noTable};
-ghost use Rattle.spec_rules.specs.Settings.{openAnswer, Succeeds, frame_of, opened};
+ghost use Rattle.spec_model.specs.Numbers.{open_number};
+ghost use Rattle.spec_model.specs.Tables.{none_held, no_table};
+ghost use Rattle.spec_rules.specs.Settings.{open_answer, Succeeds, frame_of, opened};
 
 use spec_model::{Frame, OpenAnswer, Setting, Slots, Table};
 
@@ -19,7 +19,7 @@ pub struct Opening {
 
 // No place is held.
 pub fn empty_table(frame: Frame) -> Table
-    ensures { result ≡ noneHeld frame }
+    ensures { result ≡ none_held frame }
 {
     let free = spec_model::free_entry();
     Table {
@@ -35,13 +35,13 @@ const NO_FRAME: Frame = Frame {
 };
 
 pub fn no_table() -> Table
-    ensures { result ≡ noTable }
+    ensures { result ≡ no_table }
 {
     empty_table(NO_FRAME)
 }
 
 pub fn open_answer(s: Setting) -> OpenAnswer
-    ensures { openNumber result ≡ openAnswer s }
+    ensures { open_number result ≡ open_answer s }
 {
     if !base_numbers::is_within(UNITS_LEAST, UNITS_LARGEST, s.units) {
         return OpenAnswer::UnitsOutside;
@@ -73,7 +73,7 @@ pub fn opened_table(s: Setting) -> Table
 
 // Refused, there is no table, and no call is to be made on what stands in its place.
 pub fn open(s: Setting) -> Opening
-    ensures { (openNumber result.answer ≡ openAnswer s) × (result.table ≡ cond (eqb (openAnswer s) 0) (opened s) noTable) }
+    ensures { (open_number result.answer ≡ open_answer s) × (result.table ≡ cond (eqb (open_answer s) 0) (opened s) no_table) }
 {
     let answer = open_answer(s);
     if call_answers::open_number(answer) != call_answers::DONE {

@@ -3,13 +3,13 @@
 // What is printed is no part of a contract: a program over this crate runs the proved calls, and its run is held to the rows that are
 // stored beside it.
 ghost use Rattle.std.specs.Prelude.{◌≡◌, cond, ◌/◌, eqb, length};
-ghost use Rattle.spec_rules.specs.Calls.{offered, heldAnswer, withdrawn, beacon};
-ghost use Rattle.spec_rules.specs.Reading.{enquired, windowAnswer, windowPart};
-ghost use Rattle.spec_rules.specs.Records.{recordWords};
-ghost use Rattle.spec_rules.specs.Settings.{openAnswer, Succeeds, opened};
+ghost use Rattle.spec_rules.specs.Calls.{offered, held_answer, withdrawn, beacon};
+ghost use Rattle.spec_rules.specs.Reading.{enquired, window_answer, window_part};
+ghost use Rattle.spec_rules.specs.Records.{record_words};
+ghost use Rattle.spec_rules.specs.Settings.{open_answer, Succeeds, opened};
 ghost use Rattle.spec_rules.specs.WellFormed.{WellFormed};
-ghost use Rattle.spec_model.specs.Numbers.{openNumber, heldNumber, beaconNumber};
-ghost use Rattle.spec_model.specs.Tables.{noTable};
+ghost use Rattle.spec_model.specs.Numbers.{open_number, held_number, beacon_number};
+ghost use Rattle.spec_model.specs.Tables.{no_table};
 ghost use Rattle.spec_model.specs.ByNumbers.{stream as named, setting, request};
 
 use call_beacon::Beaconing;
@@ -100,7 +100,7 @@ pub fn entry_row(e: Entry) {
 
 pub fn open(units: u32, header: u32) -> Opening
     ensures { let s = setting units header in
-        (openNumber result.answer ≡ openAnswer s) × (result.table ≡ cond (eqb (openAnswer s) 0) (opened s) noTable) }
+        (open_number result.answer ≡ open_answer s) × (result.table ≡ cond (eqb (open_answer s) 0) (opened s) no_table) }
 {
     let s = Setting { units, header };
     let o = call_open::open(s);
@@ -145,7 +145,7 @@ pub fn withdraw(t: Table, stream: u32) -> Table
 
 pub fn enquire(t: Table, stream: u32) -> Enquiry
     requires { WellFormed t }
-    ensures { let n = named stream in (heldNumber result.answer ≡ heldAnswer t n) × (result.entry ≡ enquired t n) }
+    ensures { let n = named stream in (held_number result.answer ≡ held_answer t n) × (result.entry ≡ enquired t n) }
 {
     let name = Name { stream };
     let q = call_held::enquire(t, name);
@@ -159,7 +159,7 @@ pub fn enquire(t: Table, stream: u32) -> Enquiry
 pub fn tick(t: Table, plan: &mut [u32]) -> Beaconing
     requires { WellFormed t }
     ensures is { let b = beacon t plan.old in
-        (beaconNumber result.answer ≡ b.answer) × ((result.count ≡ b.count) × ((result.table ≡ b.table) × (plan.new ≡ b.words))) }
+        (beacon_number result.answer ≡ b.answer) × ((result.count ≡ b.count) × ((result.table ≡ b.table) × (plan.new ≡ b.words))) }
     ensures formed { WellFormed result.table }
 {
     let b = call_beacon::beacon(t, plan);
@@ -189,7 +189,7 @@ pub struct Part {
 // The answer, and every record of the part that the window hands back.
 pub fn window(plan: &[u32], count: usize, from: Slots, until: Slots) -> Part
     ensures { let words = plan.now in let a = from.0 in let b = until.0 in
-        (result.answer ≡ windowAnswer words count a b) × (result.records ≡ length (windowPart words count a b) / recordWords) }
+        (result.answer ≡ window_answer words count a b) × (result.records ≡ length (window_part words count a b) / record_words) }
 {
     let mut answer: u32 = 0;
     let part = plan_window::window(plan, count, from, until, &mut answer);

@@ -3,16 +3,16 @@
 // proof that its test passes. So is the header, which is written and read back.
 ghost use Rattle.std.specs.Prelude.{◌*◌, ◌-◌, ◌≤◌, ◌≡◌, ◌++◌, length, drop};
 ghost use Rattle.spec_lists.specs.Lists.{same_list};
-ghost use Rattle.spec_shelf.specs.Printed.{headerMost, headerRow, written};
-ghost use Rattle.spec_rules.specs.Calls.{offerAnswer, offered, heldAnswer, withdrawn, plan_of, advanced};
-ghost use Rattle.spec_rules.specs.Records.{recordWords, planWords, words_of};
+ghost use Rattle.spec_shelf.specs.Printed.{header_most, header_row, written};
+ghost use Rattle.spec_rules.specs.Calls.{offer_answer, offered, held_answer, withdrawn, plan_of, advanced};
+ghost use Rattle.spec_rules.specs.Records.{record_words, plan_words, words_of};
 ghost use Rattle.spec_rules.specs.Settings.{Succeeds, opened};
-ghost use Rattle.spec_rules.specs.Reading.{windowAnswer, windowPart};
+ghost use Rattle.spec_rules.specs.Reading.{window_answer, window_part};
 ghost use Rattle.spec_rules.specs.WellFormed.{WellFormed};
-ghost use Rattle.spec_model.specs.Numbers.{beaconNumber};
+ghost use Rattle.spec_model.specs.Numbers.{beacon_number};
 ghost use Rattle.spec_model.specs.ByNumbers.{stream as named, setting, request};
-ghost use Rattle.demo_expected.specs.Said.{table1, asked, twoHeld, PlanOfTwo};
-ghost use Rattle.demo_expected.specs.Words.{recordsIn, Begins, Records, Each};
+ghost use Rattle.demo_expected.specs.Said.{table1, asked, two_held, PlanOfTwo};
+ghost use Rattle.demo_expected.specs.Words.{records_in, Begins, Records, Each};
 
 use call_beacon::Beaconing;
 use spec_model::{Name, Setting, Slots, Table};
@@ -26,15 +26,15 @@ const CASE_1_WORDS: usize = spec_model::RECORD_WORDS * 5;
 // ---- the header
 // Compared as a byte string, as verbs are.
 fn is_header(row: &[u8]) -> bool
-    ensures { result ≡ same_list row.now headerRow }
+    ensures { result ≡ same_list row.now header_row }
 {
     row_fields::matches(row, b"row,stream,job,start,length,answer\r\n")
 }
 
 // The row that is written is the one that is read back.
 fn expect_header(out: &mut [u8])
-    requires { headerMost ≤ length out.old }
-    ensures { out.new ≡ written out.old 0 headerRow }
+    requires { header_most ≤ length out.old }
+    ensures { out.new ≡ written out.old 0 header_row }
 {
     let end = row_print::header_row(out, 0);
     check::expect(is_header(&out[..end]));
@@ -96,7 +96,7 @@ fn offer(
     expected: u32,
 ) -> Table
     requires well_formed { WellFormed t }
-    requires life_value { offerAnswer t (request stream kind period min max life) ≡ expected }
+    requires life_value { offer_answer t (request stream kind period min max life) ≡ expected }
     ensures is { result ≡ offered t (request stream kind period min max life) }
     ensures formed { WellFormed result }
 {
@@ -110,7 +110,7 @@ fn offer(
 // A request by its stream, kind, period, min, max and life, which is taken.
 fn taken(t: Table, q: [u32; 6]) -> Table
     requires well_formed { WellFormed t }
-    requires q_value { offerAnswer t (asked q) ≡ 0 }
+    requires q_value { offer_answer t (asked q) ≡ 0 }
     ensures is { result ≡ offered t (asked q) }
     ensures formed { WellFormed result }
 {
@@ -119,7 +119,7 @@ fn taken(t: Table, q: [u32; 6]) -> Table
 
 fn withdraw(t: Table, stream: u32) -> Table
     requires well_formed { WellFormed t }
-    requires stream_value { heldAnswer t (named stream) ≡ 0 }
+    requires stream_value { held_answer t (named stream) ≡ 0 }
     ensures is { result ≡ withdrawn t (named stream) }
     ensures formed { WellFormed result }
 {
@@ -131,7 +131,7 @@ fn withdraw(t: Table, stream: u32) -> Table
 }
 
 fn expect_beacon(b: Beaconing, expected: u32, count: usize)
-    requires answer_value { beaconNumber b.answer ≡ expected }
+    requires answer_value { beacon_number b.answer ≡ expected }
     requires count_value { b.count ≡ count }
 {
     let answer = b.answer;
@@ -142,11 +142,11 @@ fn expect_beacon(b: Beaconing, expected: u32, count: usize)
 // The plan is these records, each with its stream, job, start and length.
 fn beacon(t: Table, plan: &mut [u32], records: &[[u32; spec_model::RECORD_WORDS]]) -> Table
     requires well_formed { WellFormed t }
-    requires plan_words_in_bounds { planWords ≤ length plan.old }
-    requires t_value { recordsIn (plan_of t) ≡ records.now }
+    requires plan_words_in_bounds { plan_words ≤ length plan.old }
+    requires t_value { records_in (plan_of t) ≡ records.now }
     ensures is { result ≡ advanced t }
     ensures formed { WellFormed result }
-    ensures words { plan.new ≡ words_of (plan_of t) ++ drop (recordWords * length records.now) plan.old }
+    ensures words { plan.new ≡ words_of (plan_of t) ++ drop (record_words * length records.now) plan.old }
 {
     let b = call_beacon::beacon(t, plan);
     expect_beacon(b, 0, records.len());
@@ -161,12 +161,12 @@ fn plan_of_two(
     plan: &mut [u32],
     records: &[[u32; spec_model::RECORD_WORDS]],
 ) -> Table
-    requires plan_words_in_bounds { planWords ≤ length plan.old }
+    requires plan_words_in_bounds { plan_words ≤ length plan.old }
     requires plan_of_two { PlanOfTwo first second records.now }
-    ensures is { result ≡ advanced (twoHeld first second) }
+    ensures is { result ≡ advanced (two_held first second) }
     ensures formed { WellFormed result }
-    ensures words { plan.new ≡ words_of (plan_of (twoHeld first second))
-        ++ drop (recordWords * length records.now) plan.old }
+    ensures words { plan.new ≡ words_of (plan_of (two_held first second))
+        ++ drop (record_words * length records.now) plan.old }
 {
     let t = open(1, 0);
     let t = taken(t, first);
@@ -177,7 +177,7 @@ fn plan_of_two(
 // With a word too few of the plan's memory lent: refused, nothing changes.
 fn refused_beacon(t: Table, plan: &mut [u32]) -> Table
     requires well_formed { WellFormed t }
-    requires plan_words_in_bounds { planWords - 1 ≤ length plan.old }
+    requires plan_words_in_bounds { plan_words - 1 ≤ length plan.old }
     ensures is { result ≡ t }
     ensures formed { WellFormed result }
     ensures words { plan.new ≡ plan.old }
@@ -196,8 +196,8 @@ fn expect_window(
     expected: u32,
     words: &[u32],
 )
-    requires until_value { windowAnswer plan.now count from.0 until.0 ≡ expected }
-    requires until_value_2 { windowPart plan.now count from.0 until.0 ≡ words.now }
+    requires until_value { window_answer plan.now count from.0 until.0 ≡ expected }
+    requires until_value_2 { window_part plan.now count from.0 until.0 ≡ words.now }
 {
     let mut answer: u32 = 77777;
     let part = plan_window::window(plan, count, from, until, &mut answer);
@@ -221,10 +221,10 @@ fn offers_of_case_1() -> Table
 fn beacon_of_case_1(t: Table, plan: &mut [u32]) -> Table
     requires t_value { t ≡ table1 }
     requires well_formed { WellFormed t }
-    requires plan_words_in_bounds { planWords ≤ length plan.old }
+    requires plan_words_in_bounds { plan_words ≤ length plan.old }
     ensures is { result ≡ advanced table1 }
     ensures formed { WellFormed result }
-    ensures words { plan.new ≡ words_of (plan_of table1) ++ drop (recordWords * 5) plan.old }
+    ensures words { plan.new ≡ words_of (plan_of table1) ++ drop (record_words * 5) plan.old }
 {
     let records = [
         [5u32, 0, 0, 100],
@@ -237,7 +237,7 @@ fn beacon_of_case_1(t: Table, plan: &mut [u32]) -> Table
 }
 
 fn cases_1_to_3(plan: &mut [u32])
-    requires { planWords ≤ length plan.old }
+    requires { plan_words ≤ length plan.old }
 {
     let t = offers_of_case_1();
     let t = beacon_of_case_1(t, plan);
@@ -266,7 +266,7 @@ fn case_4() {
 }
 
 fn case_5(plan: &mut [u32])
-    requires { planWords ≤ length plan.old }
+    requires { plan_words ≤ length plan.old }
 {
     let records = [[1u32, 0, 0, 1024]];
     let t = plan_of_two(
@@ -300,7 +300,7 @@ fn case_8() {
 
 // The plan has five records.
 fn case_9(plan: &mut [u32])
-    requires { planWords ≤ length plan.old }
+    requires { plan_words ≤ length plan.old }
 {
     let t = offers_of_case_1();
     beacon_of_case_1(t, plan);
@@ -319,7 +319,7 @@ fn case_9(plan: &mut [u32])
 // Refused with a word too few, the table and every word are as before: with it the same table gives the plan of case 1, and the words
 // after it stay. The memory is all 77,777, a number that the plan does not have.
 fn case_10(plan: &mut [u32])
-    requires plan_len { length plan.old ≡ planWords }
+    requires plan_len { length plan.old ≡ plan_words }
     requires each { Each 77777 plan.old }
 {
     let t = offers_of_case_1();
@@ -331,7 +331,7 @@ fn case_10(plan: &mut [u32])
 
 // Of a table that holds nothing.
 fn case_10_empty(plan: &mut [u32])
-    requires { planWords ≤ length plan.old }
+    requires { plan_words ≤ length plan.old }
 {
     let t = open(1, 0);
     beacon(t, plan, &[]);
@@ -340,7 +340,7 @@ fn case_10_empty(plan: &mut [u32])
 // Not the document's. Of two jobs of kind 1 due at once the lower stream number goes first, though it was offered later. With as many
 // intervals left a whole stream goes before a transfer, though the transfer has the lower stream number.
 fn two_of_our_own(plan: &mut [u32])
-    requires { planWords ≤ length plan.old }
+    requires { plan_words ≤ length plan.old }
 {
     let ties = [
         [6u32, 0, 0, 100],

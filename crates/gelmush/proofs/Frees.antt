@@ -19,7 +19,7 @@ use denote.Struct.Laws as LL
 use denote.Triple.Spec.{triple_of}
 use denote.Triple.Statement.{Contract, Triple}
 use denote.Triple.Clauses.{ensured, lasts}
-use Rattle.spec_model.specs.Entries.{freeEntry}
+use Rattle.spec_model.specs.Entries.{free_entry}
 use Rattle.spec_model.specs.declared.Table.{Table}
 use Rattle.spec_model.specs.contracts.Entry as N
 use Rattle.spec_model.proofs.Entry.TheLaws as N'
@@ -27,8 +27,8 @@ use Rattle.spec_model.specs.contracts.free_entry as free
 use Rattle.spec_model.proofs.free_entry.Symbol.{name as #spec-model·free-entry}
 use Rattle.spec_rules.specs.WellFormed.{WellFormed}
 use Rattle.law_lent.proofs.Beside.{Plain, Values}
-use Rattle.law_lent.proofs.Walk.{Gives, gives, calls-value}
-use Rattle.law_lent.proofs.Entries.{entryVal, IsEntry}
+use Rattle.law_lent.proofs.Walk.{Gives, gives, calls_value}
+use Rattle.law_lent.proofs.Entries.{entry_val, IsEntry}
 
 -- whatever stands beside it
 abbrev pub Formed : {M : Type 1} (𝓤 : Ura M) (Ps : List Plain) (κ : Lft) → Table → Values Ps κ → SProp 𝓤
@@ -38,24 +38,24 @@ module _ {M : Type 1} {𝓤 : Ura M} (𝓛 : Logic 𝓤) (at_mem : Memory → SP
   abbrev pub Free : Contract 𝓤
   Free = triple_of 𝓛 free.signature (free.spec 𝓛 at_mem run)
 
-  free-asked : ent 𝓤 (emp 𝓤) (Free.pre ((tt, tt, tt, tt, tt), tt))
-  free-asked = qed 𝓛 [] ∵ nothing ! $ nothing ! $ nothing ! $ join ! $ done !
+  free_asked : ent 𝓤 (emp 𝓤) (Free.pre ((tt, tt, tt, tt, tt), tt))
+  free_asked = qed 𝓛 [] ∵ nothing ! $ nothing ! $ nothing ! $ join ! $ done !
 
-  free-given : (w : Val)
-      → ent 𝓤 (Free.post ((tt, tt, tt, tt, tt), tt) w) (mean 𝓛 (Gives 𝓤 N.the_row (λ e. e ≡ freeEntry) w))
-  free-given w =
-      gives 𝓛 N.the_row (λ e. e ≡ freeEntry) w (ensured 𝓛 free.ended (free.clauses 𝓛 at_mem run) tt tt tt)
-      (λ e. ex_e 𝓤 _ (λ ws. snd∗ 𝓤 (sem 𝓛 (lasts free.ended tt tt ws)) (fact 𝓤 (e ≡ freeEntry))))
+  free_given : (w : Val)
+      → ent 𝓤 (Free.post ((tt, tt, tt, tt, tt), tt) w) (mean 𝓛 (Gives 𝓤 N.the_row (λ e. e ≡ free_entry) w))
+  free_given w =
+      gives 𝓛 N.the_row (λ e. e ≡ free_entry) w (ensured 𝓛 free.ended (free.clauses 𝓛 at_mem run) tt tt tt)
+      (λ e. ex_e 𝓤 _ (λ ws. snd∗ 𝓤 (sem 𝓛 (lasts free.ended tt tt ws)) (fact 𝓤 (e ≡ free_entry))))
 
 module _ {M : Type 1} {𝓤 : Ura M} {𝓛 : Logic 𝓤} (at_mem : Memory → SProp 𝓤) (run : Routine → Fun 𝓤)
     {Γ : List (Item 𝓤)} {C : Calls 𝓤 𝓛.H} {Λ : Loops 𝓤 𝓛.H} {E : Env 𝓤 𝓛.H} {Q : Post 𝓤 𝓛.H} {xs : List Operand} {d : Place} {rest : Code} where
   open 𝓛 use {H}
 
-  pub frees-entry : Go {0} → FmC 𝓤 H 𝓛.laws C → Triple 𝓤 (C #spec-model·free-entry) (Free 𝓛 at_mem run)
+  pub frees_entry : Go {0} → FmC 𝓤 H 𝓛.laws C → Triple 𝓤 (C #spec-model·free-entry) (Free 𝓛 at_mem run)
       → Opds (Go {0}) 𝓛 (raw ((Free 𝓛 at_mem run).pre ((tt, tt, tt, tt, tt), tt)) ∷ Γ) E xs []
-      → (IsEntry freeEntry → Seq (Go {0}) 𝓛 Γ (lands C Λ E d (entryVal freeEntry) rest Q))
+      → (IsEntry free_entry → Seq (Go {0}) 𝓛 Γ (lands C Λ E d (entry_val free_entry) rest Q))
       → Seq (Go {0}) 𝓛 Γ (runs C Λ E (seq (call #spec-model·free-entry xs d) rest) Q)
-  frees-entry z fm known os k =
-      calls-value ! fm N.the_row entryVal (LL.tells N.the_type N'.the_laws) (λ e. e ≡ freeEntry) (Free 𝓛 at_mem run) known
-      ((tt, tt, tt, tt, tt), tt) (free-asked 𝓛 at_mem run) (free-given 𝓛 at_mem run) os (λ e same is.
-      regoal ! (λ v. lands C Λ E d (entryVal v) rest Q) same refl $ k (subst IsEntry same is))
+  frees_entry z fm known os k =
+      calls_value ! fm N.the_row entry_val (LL.tells N.the_type N'.the_laws) (λ e. e ≡ free_entry) (Free 𝓛 at_mem run) known
+      ((tt, tt, tt, tt, tt), tt) (free_asked 𝓛 at_mem run) (free_given 𝓛 at_mem run) os (λ e same is.
+      regoal ! (λ v. lands C Λ E d (entry_val v) rest Q) same refl $ k (subst IsEntry same is))

@@ -6,11 +6,11 @@ use Rattle.spec_model.specs.ByNumbers.{stream}
 use Rattle.spec_model.specs.declared.Name.{Name}
 use Rattle.spec_model.specs.contracts.Name as N
 use Rattle.spec_model.proofs.Name.TheLaws as N'
-use Rattle.law_lent.proofs.Beside.{Plain, number-beside, Values, AreValues}
+use Rattle.law_lent.proofs.Beside.{Plain, number_beside, Values, AreValues}
 use Rattle.table_places.proofs.Named.{IsName}
 
 abbrev pub streams : List Plain
-streams = number-beside ∷ []
+streams = number_beside ∷ []
 
 abbrev pub name_of : (κ : Lft) → Values streams κ → Name
 name_of κ n = stream n.0

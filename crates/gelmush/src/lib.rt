@@ -3,9 +3,9 @@
 // for the decision by value, and stores one entry. The other calls read and write the table where it lies. An answer is the document's
 // number. Each contract is an equation over what the host had at entry and has at exit.
 ghost use Rattle.std.specs.Prelude.{cond, ◌≡◌, eqb, length, take, drop};
-ghost use Rattle.spec_rules.specs.Calls.{offerAnswer, offered, heldAnswer, withdrawn, beacon};
-ghost use Rattle.spec_rules.specs.Reading.{enquired, windowAnswer, windowPart};
-ghost use Rattle.spec_rules.specs.Settings.{openAnswer, opened};
+ghost use Rattle.spec_rules.specs.Calls.{offer_answer, offered, held_answer, withdrawn, beacon};
+ghost use Rattle.spec_rules.specs.Reading.{enquired, window_answer, window_part};
+ghost use Rattle.spec_rules.specs.Settings.{open_answer, opened};
 ghost use Rattle.spec_rules.specs.WellFormed.{WellFormed};
 ghost use Rattle.spec_model.specs.ByNumbers.{stream as named, setting, request};
 
@@ -55,7 +55,7 @@ pub extern "C" fn gelmush_offer(
 ) -> u32
     requires { WellFormed table.old }
     ensures { let t = table.old in let q = request stream kind period min max life in
-        (result ≡ offerAnswer t q) × (table.new ≡ offered t q) }
+        (result ≡ offer_answer t q) × (table.new ≡ offered t q) }
 {
     let name = Name { stream };
     let q = Request {
@@ -80,7 +80,7 @@ pub extern "C" fn gelmush_offer(
 #[unsafe(no_mangle)]
 pub extern "C" fn gelmush_withdraw(table: &mut Table, stream: u32) -> u32
     requires { WellFormed table.old }
-    ensures { let t = table.old in let n = named stream in (result ≡ heldAnswer t n) × (table.new ≡ withdrawn t n) }
+    ensures { let t = table.old in let n = named stream in (result ≡ held_answer t n) × (table.new ≡ withdrawn t n) }
 {
     let name = Name { stream };
     let at = table_places::place_in(table, name);
@@ -95,7 +95,7 @@ pub extern "C" fn gelmush_withdraw(table: &mut Table, stream: u32) -> u32
 // Asks nothing of what lies in the table's place. Refused, it lies there still.
 #[unsafe(no_mangle)]
 pub extern "C" fn gelmush_open(table: &mut Table, units: u32, header: u32) -> u32
-    ensures { let s = setting units header in let a = openAnswer s in
+    ensures { let s = setting units header in let a = open_answer s in
         (result ≡ a) × (table.new ≡ cond (eqb a 0) (opened s) table.old) }
 {
     let s = Setting { units, header };
@@ -111,7 +111,7 @@ pub extern "C" fn gelmush_open(table: &mut Table, units: u32, header: u32) -> u3
 #[unsafe(no_mangle)]
 pub extern "C" fn gelmush_enquire(table: &Table, stream: u32) -> Found
     requires { WellFormed table.now }
-    ensures { let t = table.now in let n = named stream in (result.answer ≡ heldAnswer t n) × (result.entry ≡ enquired t n) }
+    ensures { let t = table.now in let n = named stream in (result.answer ≡ held_answer t n) × (result.entry ≡ enquired t n) }
 {
     let name = Name { stream };
     let found = table_places::place_in(table, name);
@@ -148,10 +148,10 @@ pub extern "C" fn gelmush_window(
     answer: &mut u32,
 ) -> Place
     ensures { let ws = plan.now in
-        (take result.words (drop result.first ws) ≡ windowPart ws count from until)
-        × (result.first ≡ length (windowPart ws count 0 from))
-        × (result.words ≡ length (windowPart ws count from until))
-        × (answer.new ≡ windowAnswer ws count from until) }
+        (take result.words (drop result.first ws) ≡ window_part ws count from until)
+        × (result.first ≡ length (window_part ws count 0 from))
+        × (result.words ≡ length (window_part ws count from until))
+        × (answer.new ≡ window_answer ws count from until) }
 {
     let b = plan_window::bounds_of(plan, count, Slots(from), Slots(until));
     *answer = b.answer;

@@ -4,11 +4,11 @@
 // times streams.
 ghost use Rattle.std.specs.Prelude.{◌≡◌, ◌+◌, ◌≤◌, ◌<◌};
 ghost use Rattle.spec_model.specs.Entries.{asks};
-ghost use Rattle.spec_model.specs.Tables.{places, held_of, putIn};
-ghost use Rattle.spec_rules.specs.Header.{headerTest};
+ghost use Rattle.spec_model.specs.Tables.{places, held_of, put_in};
+ghost use Rattle.spec_rules.specs.Header.{header_test};
 ghost use Rattle.spec_rules.specs.WellFormed.{Tidy};
 ghost use Rattle.table_queue.specs.Queues.{Used};
-ghost use Rattle.header_test.specs.Due.{Summed, PartsIn, Tells, added, due_at, mostDue, EndsFit, Passes};
+ghost use Rattle.header_test.specs.Due.{Summed, PartsIn, Tells, added, due_at, most_due, EndsFit, Passes};
 
 use spec_model::{Entry, Frame, Slots, Table};
 
@@ -20,7 +20,7 @@ pub const PARTS_ROOM: usize = 17;
 // numbers of parts nobody has, and they cost no division.
 fn due_at(sums: &[u64; 17], k: u32, m: u32) -> u64
     requires { Summed sums.now × ((k ≤ 16) × (1 ≤ m)) }
-    ensures { (result ≡ due_at sums.now k m) × (result ≤ mostDue) }
+    ensures { (result ≡ due_at sums.now k m) × (result ≤ most_due) }
 {
     let mut due: u64 = 0;
     for i in 2..PARTS_ROOM {
@@ -80,8 +80,8 @@ pub fn add_need(sums: &mut [u64; 17], e: Entry, extra: Slots)
 // The test with the minimums of a table, with the entry at its place.
 pub fn minimums_pass(t: Table, used: usize, place: usize, e: Entry) -> bool
     requires tidy { Tidy t × Used used t }
-    requires place_lt_places { (place < places) × Tidy (putIn t place e) }
-    ensures { result ≡ headerTest t.frame asks (held_of (putIn t place e)) }
+    requires place_lt_places { (place < places) × Tidy (put_in t place e) }
+    ensures { result ≡ header_test t.frame asks (held_of (put_in t place e)) }
 {
     let mut sums = [0u64; PARTS_ROOM];
     for i in 0..used {

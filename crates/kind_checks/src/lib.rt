@@ -1,6 +1,6 @@
 // The checks of an offer's fields, refusals 12 to 15, by its kind. Document 01, "Where each refusal is checked".
 ghost use Rattle.std.specs.Prelude.{◌≡◌};
-ghost use Rattle.spec_model.specs.Answers.{offerNumber, fieldsAnswer};
+ghost use Rattle.spec_model.specs.Answers.{offer_number, fields_answer};
 
 use kind_fraction::FractionStream;
 use kind_transfer::Transfer;
@@ -9,7 +9,7 @@ use spec_model::{Frame, Intervals, OfferAnswer, Request, Slots};
 
 // Refusals 12 to 15, or Accepted where none applies.
 pub fn check_fields(q: Request, f: Frame) -> OfferAnswer
-    ensures { offerNumber result ≡ fieldsAnswer f q }
+    ensures { offer_number result ≡ fields_answer f q }
 {
     let kind = q.kind;
     if kind == 1 {

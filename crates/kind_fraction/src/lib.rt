@@ -1,7 +1,7 @@
 // Fraction streams, kind 1: the least and largest value of each field. Document 01, "Units and one request".
 ghost use Rattle.std.specs.Prelude.{◌≡◌};
-ghost use Rattle.spec_model.specs.Answers.{offerNumber};
-ghost use Rattle.spec_model.specs.Requests.{refusal, fractionPeriod, fractionAmounts, fractionLife, fractionChecks};
+ghost use Rattle.spec_model.specs.Answers.{offer_number};
+ghost use Rattle.spec_model.specs.Requests.{refusal, fraction_period, fraction_amounts, fraction_life, fraction_checks};
 
 use spec_model::{Intervals, OfferAnswer, Slots};
 
@@ -26,7 +26,7 @@ impl FractionStream {
     pub const LIFE_LARGEST: u32 = 65535;
 
     pub fn period_in_range(self, interval: Slots) -> bool
-        ensures { result ≡ fractionPeriod interval.0 self.parts }
+        ensures { result ≡ fraction_period interval.0 self.parts }
     {
         let inside = base_numbers::is_within(Self::PARTS_LEAST, Self::PARTS_LARGEST, self.parts);
         let whole = base_numbers::is_multiple(interval.0, self.parts);
@@ -35,20 +35,20 @@ impl FractionStream {
 
     // The largest amount is what a period has, B/m.
     pub fn amounts_in_range(self, interval: Slots) -> bool
-        ensures { result ≡ fractionAmounts interval.0 self.parts self.min.0 self.max.0 }
+        ensures { result ≡ fraction_amounts interval.0 self.parts self.min.0 self.max.0 }
     {
         let largest = base_numbers::part_of(interval.0, self.parts);
         spec_model::amounts_in_order(Self::MIN_LEAST, self.min, self.max, largest as u64)
     }
 
     pub fn life_in_range(self) -> bool
-        ensures { result ≡ fractionLife self.life.0 }
+        ensures { result ≡ fraction_life self.life.0 }
     {
         base_numbers::is_within(Self::LIFE_LEAST, Self::LIFE_LARGEST, self.life.0)
     }
 
     pub fn check(self, interval: Slots) -> OfferAnswer
-        ensures { offerNumber result ≡ refusal (fractionChecks
+        ensures { offer_number result ≡ refusal (fraction_checks
             interval.0 self.parts self.min.0 self.max.0 self.life.0) }
     {
         let period = self.period_in_range(interval);

@@ -1,7 +1,7 @@
 // Transfers, kind 3: the least and largest value of each field. Document 01, "Units and one request".
 ghost use Rattle.std.specs.Prelude.{◌≡◌};
-ghost use Rattle.spec_model.specs.Answers.{offerNumber};
-ghost use Rattle.spec_model.specs.Requests.{refusal, transferPeriod, transferAmounts, transferLife, transferChecks};
+ghost use Rattle.spec_model.specs.Answers.{offer_number};
+ghost use Rattle.spec_model.specs.Requests.{refusal, transfer_period, transfer_amounts, transfer_life, transfer_checks};
 
 use spec_model::{Intervals, OfferAnswer, Slots};
 
@@ -24,7 +24,7 @@ impl Transfer {
     pub const RESERVED: u32 = 0;
 
     pub fn period_in_range(self) -> bool
-        ensures { result ≡ transferPeriod self.deadline.0 }
+        ensures { result ≡ transfer_period self.deadline.0 }
     {
         base_numbers::is_within(
             Self::DEADLINE_LEAST,
@@ -34,7 +34,7 @@ impl Transfer {
     }
 
     pub fn amounts_in_range(self) -> bool
-        ensures { result ≡ transferAmounts self.amount.0 self.reserved.0 }
+        ensures { result ≡ transfer_amounts self.amount.0 self.reserved.0 }
     {
         let some = Self::AMOUNT_LEAST <= self.amount.0;
         let none = self.reserved.0 == Self::RESERVED;
@@ -42,13 +42,13 @@ impl Transfer {
     }
 
     pub fn life_in_range(self) -> bool
-        ensures { result ≡ transferLife self.deadline.0 self.life.0 }
+        ensures { result ≡ transfer_life self.deadline.0 self.life.0 }
     {
         self.life.0 == self.deadline.0
     }
 
     pub fn check(self) -> OfferAnswer
-        ensures { offerNumber result ≡ refusal (transferChecks
+        ensures { offer_number result ≡ refusal (transfer_checks
             self.deadline.0 self.amount.0 self.reserved.0 self.life.0) }
     {
         let period = self.period_in_range();

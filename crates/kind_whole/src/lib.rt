@@ -1,7 +1,7 @@
 // Whole streams, kind 2: the least and largest value of each field. Document 01, "Units and one request".
 ghost use Rattle.std.specs.Prelude.{◌≡◌};
-ghost use Rattle.spec_model.specs.Answers.{offerNumber};
-ghost use Rattle.spec_model.specs.Requests.{refusal, wholePeriod, wholeAmounts, wholeLife, wholeChecks};
+ghost use Rattle.spec_model.specs.Answers.{offer_number};
+ghost use Rattle.spec_model.specs.Requests.{refusal, whole_period, whole_amounts, whole_life, whole_checks};
 
 use spec_model::{Intervals, OfferAnswer, Slots};
 
@@ -26,14 +26,14 @@ impl WholeStream {
     pub const LIFE_LARGEST: u32 = 65535;
 
     pub fn period_in_range(self) -> bool
-        ensures { result ≡ wholePeriod self.period.0 }
+        ensures { result ≡ whole_period self.period.0 }
     {
         base_numbers::is_within(Self::PERIOD_LEAST, Self::PERIOD_LARGEST, self.period.0)
     }
 
     // The largest amount is what the period's intervals have, which may pass 32 bits.
     pub fn amounts_in_range(self, interval: Slots) -> bool
-        ensures { result ≡ wholeAmounts interval.0 self.period.0 self.min.0 self.max.0 }
+        ensures { result ≡ whole_amounts interval.0 self.period.0 self.min.0 self.max.0 }
     {
         let period = self.period.0 as u64;
         let slots = interval.0 as u64;
@@ -42,7 +42,7 @@ impl WholeStream {
 
     // The life is a multiple of the period.
     pub fn life_in_range(self) -> bool
-        ensures { result ≡ wholeLife self.period.0 self.life.0 }
+        ensures { result ≡ whole_life self.period.0 self.life.0 }
     {
         let inside = base_numbers::is_within(Self::LIFE_LEAST, Self::LIFE_LARGEST, self.life.0);
         let whole = base_numbers::is_multiple(self.life.0, self.period.0);
@@ -50,7 +50,7 @@ impl WholeStream {
     }
 
     pub fn check(self, interval: Slots) -> OfferAnswer
-        ensures { offerNumber result ≡ refusal (wholeChecks
+        ensures { offer_number result ≡ refusal (whole_checks
             interval.0 self.period.0 self.min.0 self.max.0 self.life.0) }
     {
         let period = self.period_in_range();

@@ -13,38 +13,38 @@ use Rattle.spec_model.specs.declared.Entry.{Entry}
 use Rattle.spec_model.specs.declared.Table.{Table}
 use Rattle.spec_model.specs.declared.Frame.{Frame}
 use Rattle.spec_model.specs.Tables.{held_of}
-use Rattle.spec_rules.specs.Share.{overfull, stepB}
+use Rattle.spec_rules.specs.Share.{overfull, step_b}
 use Rattle.spec_rules.specs.Ahead.{misses}
 use Rattle.spec_rules.specs.WellFormed.{Held, Tidy}
-use Rattle.law_steps.specs.Places.{tidy-held}
-use Rattle.law_ahead.specs.Moved.{moved, lifeOf, no-extras, moved-most}
-use Rattle.law_ahead.specs.KeepsUp.{keepsUp, keepsUpAhead}
-use Rattle.law_ahead.specs.Tables.{tidy-together, stepped, stepped-held, stepped-tidy}
+use Rattle.law_steps.specs.Places.{tidy_held}
+use Rattle.law_ahead.specs.Moved.{moved, life_of, no_extras, moved_most}
+use Rattle.law_ahead.specs.KeepsUp.{keeps_up, keeps_up_ahead}
+use Rattle.law_ahead.specs.Tables.{tidy_together, stepped, stepped_held, stepped_tidy}
 
 -- the table one interval on, as looking ahead has it: without extras
-abbrev pub lookedPast : Table → Table
-lookedPast t = stepped (stepB t.frame (held_of t)) [] t
+abbrev pub looked_past : Table → Table
+looked_past t = stepped (step_b t.frame (held_of t)) [] t
 
-pub past-held : (t : Table) → Tidy t → held_of (lookedPast t) ≡ moved (stepB t.frame (held_of t)) [] (held_of t)
-past-held t w = stepped-held (stepB t.frame (held_of t)) [] t w
+pub past_held : (t : Table) → Tidy t → held_of (looked_past t) ≡ moved (step_b t.frame (held_of t)) [] (held_of t)
+past_held t w = stepped_held (step_b t.frame (held_of t)) [] t w
 
-pub past-tidy : (t : Table) → Tidy t → Tidy (lookedPast t)
-past-tidy t w = stepped-tidy (stepB t.frame (held_of t)) [] t w (no-extras t.frame (held_of t) w.once)
+pub past_tidy : (t : Table) → Tidy t → Tidy (looked_past t)
+past_tidy t w = stepped_tidy (step_b t.frame (held_of t)) [] t w (no_extras t.frame (held_of t) w.once)
 
 -- ---- nothing is held
-ahead_none : (F : Frame) → keepsUpAhead F [] ≡ true
-unfolding keepsUpAhead keepsUp
+ahead_none : (F : Frame) → keeps_up_ahead F [] ≡ true
+unfolding keeps_up_ahead keeps_up
 ahead_none F = refl
 
-pub ahead-over : (F : Frame) (es : List Entry) → length es ≡ 0 → keepsUpAhead F es ≡ true
-ahead-over F [] z = ahead_none F
-ahead-over F (e ∷ es) z = absurd (omega arith)
+pub ahead_over : (F : Frame) (es : List Entry) → length es ≡ 0 → keeps_up_ahead F es ≡ true
+ahead_over F [] z = ahead_none F
+ahead_over F (e ∷ es) z = absurd (omega arith)
 
 -- ---- a turn
 -- a held entry has life left
-held-lives : {F : Frame} (es : List Entry) → All (Held F) es → 1 ≤ length es → 1 ≤ most_of lifeOf es
-held-lives [] h l = absurd (omega arith)
-held-lives (e ∷ es) h l = omega (arith, (head h).alive)
+held_lives : {F : Frame} (es : List Entry) → All (Held F) es → 1 ≤ length es → 1 ≤ most_of life_of es
+held_lives [] h l = absurd (omega arith)
+held_lives (e ∷ es) h l = omega (arith, (head h).alive)
 
 module _ (t : Table) (w : Tidy t) (l : 1 ≤ length (held_of t)) where
   abbrev F : Frame
@@ -54,23 +54,23 @@ module _ (t : Table) (w : Tidy t) (l : 1 ≤ length (held_of t)) where
   es = held_of t
 
   abbrev past : List Entry
-  past = held_of (lookedPast t)
+  past = held_of (looked_past t)
 
-  past-most : most_of lifeOf past ≡ most_of lifeOf es - 1
-  past-most = ap (most_of lifeOf) (past-held t w) ∙ moved-most F (stepB F es) [] es (tidy-together w) (no-extras F es w.once)
+  past_most : most_of life_of past ≡ most_of life_of es - 1
+  past_most = ap (most_of life_of) (past_held t w) ∙ moved_most F (step_b F es) [] es (tidy_together w) (no_extras F es w.once)
 
   -- the test of this interval, and looking ahead from the next
-  pub ahead_step : keepsUpAhead F es ≡ cond (overfull F es || any_of (misses (stepB F es)) es) false (keepsUpAhead F past)
-  unfolding keepsUpAhead keepsUp
-  ahead_step = go (most_of lifeOf es) (most_of lifeOf past) (omega (arith, past-most, held-lives es (tidy-held w) l))
+  pub ahead_step : keeps_up_ahead F es ≡ cond (overfull F es || any_of (misses (step_b F es)) es) false (keeps_up_ahead F past)
+  unfolding keeps_up_ahead keeps_up
+  ahead_step = go (most_of life_of es) (most_of life_of past) (omega (arith, past_most, held_lives es (tidy_held w) l))
     where
-      go : (n m : ℕ) → n ≡ suc m → keepsUp n F es ≡ cond (overfull F es || any_of (misses (stepB F es)) es) false (keepsUp m F past)
+      go : (n m : ℕ) → n ≡ suc m → keeps_up n F es ≡ cond (overfull F es || any_of (misses (step_b F es)) es) false (keeps_up m F past)
       go n m q =
-          ap (λ k. keepsUp k F es) q
-          ∙ ap (λ fs. cond (overfull F es || any_of (misses (stepB F es)) es) false (keepsUp m F fs)) (sym (past-held t w))
+          ap (λ k. keeps_up k F es) q
+          ∙ ap (λ fs. cond (overfull F es || any_of (misses (step_b F es)) es) false (keeps_up m F fs)) (sym (past_held t w))
 
-  pub ahead-misses : (overfull F es || any_of (misses (stepB F es)) es) ≡ true → keepsUpAhead F es ≡ false
-  ahead-misses h = ahead_step ∙ ap (λ b. cond b false (keepsUpAhead F past)) h
+  pub ahead_misses : (overfull F es || any_of (misses (step_b F es)) es) ≡ true → keeps_up_ahead F es ≡ false
+  ahead_misses h = ahead_step ∙ ap (λ b. cond b false (keeps_up_ahead F past)) h
 
-  pub ahead-turn : overfull F es ≡ false → any_of (misses (stepB F es)) es ≡ false → keepsUpAhead F past ≡ keepsUpAhead F es
-  ahead-turn h k = sym (ahead_step ∙ ap₂ (λ a b. cond (a || b) false (keepsUpAhead F past)) h k)
+  pub ahead_turn : overfull F es ≡ false → any_of (misses (step_b F es)) es ≡ false → keeps_up_ahead F past ≡ keeps_up_ahead F es
+  ahead_turn h k = sym (ahead_step ∙ ap₂ (λ a b. cond (a || b) false (keeps_up_ahead F past)) h k)

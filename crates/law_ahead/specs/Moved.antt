@@ -6,24 +6,24 @@ use Rattle.std.proofs.Common.{◌∙◌, zero-le, le_of_eq}
 use Rattle.std.proofs.Math.Logic.{inl, inr, ⊎_elim}
 use Rattle.std.proofs.Math.Bool.{true, false, cond}
 use native.Mathlib.Omega.{arith}
-use Rattle.spec_lists.specs.Lists.{one-if, keep, sum_of, most_of}
+use Rattle.spec_lists.specs.Lists.{one_if, keep, sum_of, most_of}
 use Rattle.spec_lists.specs.All.{All}
 use Rattle.base_lists.specs.Tests.{clash}
-use Rattle.base_lists.specs.All.{all_map, all-zip, all_both, all_of, all_keep, all_of_map}
-use Rattle.base_lists.specs.Sums.{sum-ext, sum-le, sum-keep, sum-map}
-use Rattle.base_lists.specs.Most.{most-keep, most-less, most-map}
-use Rattle.spec_model.specs.Entries.{freeEntry, is_held, isNamed}
+use Rattle.base_lists.specs.All.{all_map, all_zip, all_both, all_of, all_keep, all_of_map}
+use Rattle.base_lists.specs.Sums.{sum_ext, sum_le, sum_keep, sum_map}
+use Rattle.base_lists.specs.Most.{most_keep, most_less, most_map}
+use Rattle.spec_model.specs.Entries.{free_entry, is_held, is_named}
 use Rattle.spec_model.specs.declared.Entry.{Entry}
 use Rattle.spec_model.specs.declared.Frame.{Frame}
 use Rattle.spec_model.specs.declared.Name.{Name}
-use Rattle.spec_rules.specs.Share.{Grant, slotsFor, stepB, stepC}
-use Rattle.spec_rules.specs.Ahead.{stepF}
+use Rattle.spec_rules.specs.Share.{Grant, slots_for, step_b, step_c}
+use Rattle.spec_rules.specs.Ahead.{step_f}
 use Rattle.spec_rules.specs.WellFormed.{Held, Once}
-use Rattle.law_steps.specs.Grants.{slots-none}
-use Rattle.law_steps.specs.Held.{held-is}
-use Rattle.law_steps.specs.Settled.{after, Granted, Stays, settled-held, after-life}
-use Rattle.law_steps.specs.StepB.{stepB-within}
-use Rattle.law_steps.specs.Extras.{stepC-within, stepC-last}
+use Rattle.law_steps.specs.Grants.{slots_none}
+use Rattle.law_steps.specs.Held.{held_is}
+use Rattle.law_steps.specs.Settled.{after, Granted, Stays, settled_held, after_life}
+use Rattle.law_steps.specs.StepB.{step_b_within}
+use Rattle.law_steps.specs.Extras.{step_c_within, step_c_last}
 
 -- entries that can stand in a table together
 pub record Together (F : Frame) (es : List Entry) : Type 0 where
@@ -32,87 +32,87 @@ pub record Together (F : Frame) (es : List Entry) : Type 0 where
 
 -- an entry after an interval that gave bs and, beside what is owed, cs
 abbrev pub step_of : (bs cs : List Grant) → Entry → Entry
-step_of bs cs e = after (slotsFor e.name bs) (slotsFor e.name cs) e
+step_of bs cs e = after (slots_for e.name bs) (slots_for e.name cs) e
 
 -- those that are still held
 abbrev pub moved : (bs cs : List Grant) → List Entry → List Entry
-moved bs cs es = keep is_held (stepF bs cs es)
+moved bs cs es = keep is_held (step_f bs cs es)
 
 -- these slots may be given
 abbrev pub MayGive : (bs cs : List Grant) → List Entry → Type 0
-MayGive bs cs es = All (λ e. Granted (slotsFor e.name bs) (slotsFor e.name cs) e) es
+MayGive bs cs es = All (λ e. Granted (slots_for e.name bs) (slots_for e.name cs) e) es
 
-abbrev pub lifeOf : Entry → ℕ
-lifeOf e = e.life_left.0
+abbrev pub life_of : Entry → ℕ
+life_of e = e.life_left.0
 
 -- ---- step B, with the extras of step C, and with none, as looking ahead has it
 module _ (F : Frame) (es : List Entry) (w : Once es) where
-  pub no-extras : MayGive (stepB F es) [] es
-  no-extras =
-      all_map (λ e h. record { owed = h; extra = omega (arith, slots-none e.name); last = λ q. inl (slots-none e.name) })
-      (stepB-within F es w)
+  pub no_extras : MayGive (step_b F es) [] es
+  no_extras =
+      all_map (λ e h. record { owed = h; extra = omega (arith, slots_none e.name); last = λ q. inl (slots_none e.name) })
+      (step_b_within F es w)
 
-  pub own-extras : MayGive (stepB F es) (stepC F es) es
-  own-extras =
-      all-zip (λ e h k. record { owed = h; extra = k.0; last = k.1 }) (stepB-within F es w)
-      (all_both (stepC-within F es w) (stepC-last F es w))
+  pub own_extras : MayGive (step_b F es) (step_c F es) es
+  own_extras =
+      all_zip (λ e h k. record { owed = h; extra = k.0; last = k.1 }) (step_b_within F es w)
+      (all_both (step_c_within F es w) (step_c_last F es w))
 
 -- ---- after the interval
 module _ (F : Frame) (bs cs : List Grant) (es : List Entry) (w : Together F es) (x : MayGive bs cs es) where
-  steps-stay : All (λ e. Stays F e (step_of bs cs e)) es
-  steps-stay = all-zip (λ e h g. settled-held F (slotsFor e.name bs) (slotsFor e.name cs) e h g) w.held x
+  steps_stay : All (λ e. Stays F e (step_of bs cs e)) es
+  steps_stay = all_zip (λ e h g. settled_held F (slots_for e.name bs) (slots_for e.name cs) e h g) w.held x
 
   -- a sum to which a free place adds nothing
-  pub moved_sum : (f : Entry → ℕ) → f freeEntry ≡ 0 → sum_of f (moved bs cs es) ≡ sum_of (λ e. f (step_of bs cs e)) es
-  unfolding stepF
+  pub moved_sum : (f : Entry → ℕ) → f free_entry ≡ 0 → sum_of f (moved bs cs es) ≡ sum_of (λ e. f (step_of bs cs e)) es
+  unfolding step_f
   moved_sum f z =
-      sum-keep f is_held (map (step_of bs cs) es)
-      ∙ sum-map (λ y. cond (is_held y) (f y) 0) (step_of bs cs) es
-      ∙ sum-ext (λ e. cond (is_held (step_of bs cs e)) (f (step_of bs cs e)) 0) (λ e. f (step_of bs cs e))
-      (all_map (λ e s. kept (step_of bs cs e) (⊎_elim inl (λ q. inr (held-is q.1)) s)) steps-stay)
+      sum_keep f is_held (map (step_of bs cs) es)
+      ∙ sum_map (λ y. cond (is_held y) (f y) 0) (step_of bs cs) es
+      ∙ sum_ext (λ e. cond (is_held (step_of bs cs e)) (f (step_of bs cs e)) 0) (λ e. f (step_of bs cs e))
+      (all_map (λ e s. kept (step_of bs cs e) (⊎_elim inl (λ q. inr (held_is q.1)) s)) steps_stay)
     where
-      kept : (y : Entry) → (y ≡ freeEntry) ⊎ (is_held y ≡ true) → cond (is_held y) (f y) 0 ≡ f y
+      kept : (y : Entry) → (y ≡ free_entry) ⊎ (is_held y ≡ true) → cond (is_held y) (f y) 0 ≡ f y
       kept y (inl q) = ap (λ v. cond (is_held v) (f v) 0) q ∙ sym (ap f q ∙ z)
       kept y (inr q) = ap (λ b. cond b (f y) 0) q
 
-  pub moved-together : Together F (moved bs cs es)
-  unfolding stepF
-  moved-together =
+  pub moved_together : Together F (moved bs cs es)
+  unfolding step_f
+  moved_together =
       record {
-        held = all_keep {P = λ y. (y ≡ freeEntry) ⊎ Held F y} is_held real
-            (all_of_map (step_of bs cs) (all_map (λ e s. ⊎_elim inl (λ q. inr q.1) s) steps-stay));
+        held = all_keep {P = λ y. (y ≡ free_entry) ⊎ Held F y} is_held real
+            (all_of_map (step_of bs cs) (all_map (λ e s. ⊎_elim inl (λ q. inr q.1) s) steps_stay));
         once = λ s. omega (
           arith,
           w.once s,
-          sum-keep (λ (e : Entry). one-if (isNamed s e)) is_held (map (step_of bs cs) es),
-          sum-map (λ (y : Entry). cond (is_held y) (one-if (isNamed s y)) 0) (step_of bs cs) es,
-          sum-le (λ e. cond (is_held (step_of bs cs e)) (one-if (isNamed s (step_of bs cs e))) 0) (λ (e : Entry). one-if (isNamed s e))
-              (all_map (λ e h. fewer s e (step_of bs cs e) h) steps-stay),
+          sum_keep (λ (e : Entry). one_if (is_named s e)) is_held (map (step_of bs cs) es),
+          sum_map (λ (y : Entry). cond (is_held y) (one_if (is_named s y)) 0) (step_of bs cs) es,
+          sum_le (λ e. cond (is_held (step_of bs cs e)) (one_if (is_named s (step_of bs cs e))) 0) (λ (e : Entry). one_if (is_named s e))
+              (all_map (λ e h. fewer s e (step_of bs cs e) h) steps_stay),
         );
       }
     where
-      real : (y : Entry) → is_held y ≡ true → (y ≡ freeEntry) ⊎ Held F y → Held F y
+      real : (y : Entry) → is_held y ≡ true → (y ≡ free_entry) ⊎ Held F y → Held F y
       real y q (inl z) = absurd (clash (is_held y) q (ap is_held z))
       real y q (inr h) = h
 
-      fewer : (s : Name) (e y : Entry) → Stays F e y → cond (is_held y) (one-if (isNamed s y)) 0 ≤ one-if (isNamed s e)
+      fewer : (s : Name) (e y : Entry) → Stays F e y → cond (is_held y) (one_if (is_named s y)) 0 ≤ one_if (is_named s e)
       fewer s e y (inl q) = rw q zero-le
-      fewer s e y (inr q) = rw (held-is q.1, q.0) (le_of_eq refl)
+      fewer s e y (inr q) = rw (held_is q.1, q.0) (le_of_eq refl)
 
-  pub moved-life : (n : ℕ) → All (λ e. e.life_left.0 ≤ suc n) es → All (λ e. e.life_left.0 ≤ n) (moved bs cs es)
-  unfolding stepF
-  moved-life n l =
+  pub moved_life : (n : ℕ) → All (λ e. e.life_left.0 ≤ suc n) es → All (λ e. e.life_left.0 ≤ n) (moved bs cs es)
+  unfolding step_f
+  moved_life n l =
       all_keep is_held (λ y q k. k)
-      (all_of_map (step_of bs cs) (all_map (λ e k. omega (arith, after-life (slotsFor e.name bs) (slotsFor e.name cs) e)) l))
+      (all_of_map (step_of bs cs) (all_map (λ e k. omega (arith, after_life (slots_for e.name bs) (slots_for e.name cs) e)) l))
 
   -- the longest life is one shorter: only a life that is over leaves
-  pub moved-most : most_of lifeOf (moved bs cs es) ≡ most_of lifeOf es - 1
-  unfolding stepF
-  moved-most =
-      most-keep lifeOf is_held (all_of_map (step_of bs cs) (all_map (λ e s. over e (step_of bs cs e) s) steps-stay))
-      ∙ most-map lifeOf (step_of bs cs) es
-      ∙ most-less lifeOf (λ e. lifeOf (step_of bs cs e)) (all_of es (λ e. after-life (slotsFor e.name bs) (slotsFor e.name cs) e))
+  pub moved_most : most_of life_of (moved bs cs es) ≡ most_of life_of es - 1
+  unfolding step_f
+  moved_most =
+      most_keep life_of is_held (all_of_map (step_of bs cs) (all_map (λ e s. over e (step_of bs cs e) s) steps_stay))
+      ∙ most_map life_of (step_of bs cs) es
+      ∙ most_less life_of (λ e. life_of (step_of bs cs e)) (all_of es (λ e. after_life (slots_for e.name bs) (slots_for e.name cs) e))
     where
-      over : (e y : Entry) → Stays F e y → is_held y ≡ false → lifeOf y ≡ 0
-      over e y (inl q) z = ap lifeOf q
-      over e y (inr q) z = absurd (clash (is_held y) (held-is q.1) z)
+      over : (e y : Entry) → Stays F e y → is_held y ≡ false → life_of y ≡ 0
+      over e y (inl q) z = ap life_of q
+      over e y (inr q) z = absurd (clash (is_held y) (held_is q.1) z)

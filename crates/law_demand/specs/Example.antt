@@ -2,33 +2,33 @@
 -- calls: what its definitions say there, computed; and what the theorem gives for two offers. Assumes nothing.
 use Rattle.std.specs.Prelude.{◌≡◌, refl, true, List, [], ◌∷◌, ◌++◌, map, ℕ, length, get_or, replicate}
 use Rattle.spec_lists.specs.Lists.{same_list}
-use Rattle.spec_model.specs.Frames.{roomIn}
-use Rattle.spec_model.specs.Names.{same, lower, nameInRange}
-use Rattle.spec_model.specs.Requests.{refusal, fieldChecks}
+use Rattle.spec_model.specs.Frames.{room_in}
+use Rattle.spec_model.specs.Names.{same, lower, name_in_range}
+use Rattle.spec_model.specs.Requests.{refusal, field_checks}
 use Rattle.spec_model.specs.Entries.{entry_of}
 use Rattle.spec_model.specs.ByNumbers.{stream, setting, request}
 use Rattle.spec_model.specs.declared.Setting.{Setting}
-use Rattle.spec_rules.specs.Header.{endsOf, dueBy, headerTest}
-use Rattle.spec_rules.specs.Share.{load_of, load, slotsFor, order, take-turns, stepB, remains, weight, extra, shareAmong, extrasPass, stepC}
-use Rattle.spec_rules.specs.Slots.{Run, jobsFrom, tieOrder, jobs, choose, slotsFrom, stepD, prepend, runsFrom, stepE}
-use Rattle.spec_rules.specs.Ahead.{passed, renewed, settled, stepF, goesWell, fitsAhead}
-use Rattle.spec_rules.specs.Settings.{openAnswer, Succeeds, frame_of, opened}
-use Rattle.spec_rules.specs.Records.{planWords, wordsOfRun, words_of, recordAt, recordsOf}
-use Rattle.spec_rules.specs.Calls.{offerAnswer, placed, offered, heldAnswer, withdrawn, plan_of, advanced, beacon}
+use Rattle.spec_rules.specs.Header.{ends_of, due_by, header_test}
+use Rattle.spec_rules.specs.Share.{load_of, load, slots_for, order, take_turns, step_b, remains, weight, extra, share_among, extras_pass, step_c}
+use Rattle.spec_rules.specs.Slots.{Run, jobs_from, tie_order, jobs, choose, slots_from, step_d, prepend, runs_from, step_e}
+use Rattle.spec_rules.specs.Ahead.{passed, renewed, settled, step_f, goes_well, fits_ahead}
+use Rattle.spec_rules.specs.Settings.{open_answer, Succeeds, frame_of, opened}
+use Rattle.spec_rules.specs.Records.{plan_words, words_of_run, words_of, record_at, records_of}
+use Rattle.spec_rules.specs.Calls.{offer_answer, placed, offered, held_answer, withdrawn, plan_of, advanced, beacon}
 use Rattle.spec_demand.specs.Assignment.{Assignment}
-use Rattle.spec_demand.specs.History.{Call, Offer, Withdraw, Beacon, Seen, answerOn, planOn, after, history, tableAfter}
-use Rattle.spec_demand.specs.Ledger.{Admission, Ledger, begins, noteDone, note, noteAll, ledgerOf}
-use Rattle.spec_demand.specs.Demand.{timesGiven, givenTo, slots_of, had, answerTo, ServesAll, seenOf, seenNext}
+use Rattle.spec_demand.specs.History.{Call, Offer, Withdraw, Beacon, Seen, answer_on, plan_on, after, history, table_after}
+use Rattle.spec_demand.specs.Ledger.{Admission, Ledger, begins, note_done, note, note_all, ledger_of}
+use Rattle.spec_demand.specs.Demand.{times_given, given_to, slots_of, had, answer_to, ServesAll, seen_of, seen_next}
 use Rattle.law_demand.specs.Proof.{demand3}
 
 abbrev memory : List ℕ
-memory = replicate planWords 0
+memory = replicate plan_words 0
 
 abbrev unit : Setting
 unit = setting 1 0
 
 opens : Succeeds unit
-unfolding openAnswer refusal
+unfolding open_answer refusal
 opens = refl
 
 -- one time unit; case 1 of the document, and then on
@@ -70,33 +70,33 @@ counted l =
 
 -- how often a plan gives its first slot, and one that is idle
 abbrev once : List Run → List ℕ
-once rs = timesGiven 0 rs ∷ timesGiven 1010 rs ∷ []
+once rs = times_given 0 rs ∷ times_given 1010 rs ∷ []
 
 abbrev shown : List Seen → List ℕ
-shown vs = map (λ (v : Seen). v.answer) vs ++ once (get_or (map (λ (v : Seen). v.plan) vs) 12 []) ++ counted (ledgerOf vs)
+shown vs = map (λ (v : Seen). v.answer) vs ++ once (get_or (map (λ (v : Seen). v.plan) vs) 12 []) ++ counted (ledger_of vs)
 
-pub example-right :
+pub example_right :
     same_list (shown (history (opened unit) calls))
     (0 ∷ 0 ∷ 0 ∷ 11 ∷ 10 ∷ 12 ∷ 30 ∷ 0 ∷ 20 ∷ 0 ∷ 17 ∷ 0 ∷ 0 ∷ 1 ∷ 0 ∷ 1 ∷ 2 ∷ 974 ∷ 100 ∷ 287 ∷ 300 ∷ []) ≡ true
-unfolding refusal fieldChecks entry_of roomIn same lower nameInRange
-    endsOf dueBy headerTest load_of load slotsFor order take-turns stepB remains weight extra shareAmong extrasPass stepC
-    jobsFrom tieOrder jobs choose slotsFrom stepD prepend runsFrom stepE
-    passed renewed settled stepF goesWell fitsAhead
-    frame_of opened offerAnswer placed offered heldAnswer withdrawn wordsOfRun words_of recordAt recordsOf plan_of advanced beacon
-    answerOn planOn after history noteDone note noteAll timesGiven givenTo slots_of had
-example-right = refl
+unfolding refusal field_checks entry_of room_in same lower name_in_range
+    ends_of due_by header_test load_of load slots_for order take_turns step_b remains weight extra share_among extras_pass step_c
+    jobs_from tie_order jobs choose slots_from step_d prepend runs_from step_e
+    passed renewed settled step_f goes_well fits_ahead
+    frame_of opened offer_answer placed offered held_answer withdrawn words_of_run words_of record_at records_of plan_of advanced beacon
+    answer_on plan_on after history note_done note note_all times_given given_to slots_of had
+example_right = refl
 
 -- ---- what the theorem gives for an offer, where the document's case 4 has it: with 748 slots there is an assignment, with 749 none
 abbrev calls4 : List Call
 calls4 = Offer (request 5 1 2 100 300 4) ∷ Offer (request 7 2 2 600 1000 4) ∷ Offer (request 9 3 1 300 0 1) ∷ []
 
-answers4 : (answerTo (seenNext unit calls4) (request 11 3 2 748 0 2) ≡ 0) × (answerTo (seenNext unit calls4) (request 11 3 2 749 0 2) ≡ 17)
-unfolding refusal fieldChecks entry_of roomIn same lower nameInRange endsOf dueBy headerTest load_of load slotsFor order take-turns stepB
-    passed renewed settled stepF goesWell fitsAhead frame_of opened offerAnswer placed offered answerOn after tableAfter
+answers4 : (answer_to (seen_next unit calls4) (request 11 3 2 748 0 2) ≡ 0) × (answer_to (seen_next unit calls4) (request 11 3 2 749 0 2) ≡ 17)
+unfolding refusal field_checks entry_of room_in same lower name_in_range ends_of due_by header_test load_of load slots_for order take_turns step_b
+    passed renewed settled step_f goes_well fits_ahead frame_of opened offer_answer placed offered answer_on after table_after
 answers4 = (refl, refl)
 
-pub some-assignment : (a : Assignment) × ServesAll (frame_of unit) (seenOf unit calls4) (request 11 3 2 748 0 2) a
-some-assignment = (demand3 unit opens calls4).accepted (request 11 3 2 748 0 2) answers4.0
+pub some_assignment : (a : Assignment) × ServesAll (frame_of unit) (seen_of unit calls4) (request 11 3 2 748 0 2) a
+some_assignment = (demand3 unit opens calls4).accepted (request 11 3 2 748 0 2) answers4.0
 
-pub no-assignment : (a : Assignment) → ServesAll (frame_of unit) (seenOf unit calls4) (request 11 3 2 749 0 2) a → ⊥
-no-assignment = (demand3 unit opens calls4).refused (request 11 3 2 749 0 2) answers4.1
+pub no_assignment : (a : Assignment) → ServesAll (frame_of unit) (seen_of unit calls4) (request 11 3 2 749 0 2) a → ⊥
+no_assignment = (demand3 unit opens calls4).refused (request 11 3 2 749 0 2) answers4.1

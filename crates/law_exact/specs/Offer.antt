@@ -9,17 +9,17 @@ use Rattle.spec_model.specs.Tables.{held_of}
 use Rattle.spec_model.specs.declared.Frame.{Frame}
 use Rattle.spec_model.specs.declared.Request.{Request}
 use Rattle.spec_model.specs.declared.Table.{Table}
-use Rattle.spec_rules.specs.Calls.{holds, offerAnswer}
+use Rattle.spec_rules.specs.Calls.{holds, offer_answer}
 use Rattle.spec_rules.specs.WellFormed.{WellFormed}
-use Rattle.law_steps.specs.Offers.{offerChecksBut, isFull, hasTime, answer-fits, answer-not}
-use Rattle.law_ahead.specs.Tables.{formed-header}
-use Rattle.law_ahead.specs.Formed.{passed-together}
+use Rattle.law_steps.specs.Offers.{offer_checks_but, is_full, has_time, answer_fits, answer_not}
+use Rattle.law_ahead.specs.Tables.{formed_header}
+use Rattle.law_ahead.specs.Formed.{passed_together}
 use Rattle.spec_demand.specs.Assignment.{Assignment, LeavesHeader}
 use Rattle.law_exact.specs.Entries.{ServesEntry}
-use Rattle.law_exact.specs.Plans.{plansAhead, plans-leave, ahead-serves, serves-ahead}
+use Rattle.law_exact.specs.Plans.{plans_ahead, plans_leave, ahead_serves, serves_ahead}
 
 module _ (t : Table) (w : WellFormed t) (q : Request)
-    (h : refusal (offerChecksBut (holds t q.name) (isFull t q) t.frame q) ≡ 0)
+    (h : refusal (offer_checks_but (holds t q.name) (is_full t q) t.frame q) ≡ 0)
   where
     abbrev F : Frame
     F = t.frame
@@ -28,12 +28,12 @@ module _ (t : Table) (w : WellFormed t) (q : Request)
     abbrev pub ServesOffer : Assignment → Type 0
     ServesOffer a = LeavesHeader F a × All (ServesEntry F a) (entry_of q ∷ held_of t)
 
-    pub offer-served : offerAnswer t q ≡ 0 → (a : Assignment) × ServesOffer a
-    offer-served z =
+    pub offer_served : offer_answer t q ≡ 0 → (a : Assignment) × ServesOffer a
+    offer_served z =
         let es = entry_of q ∷ held_of t in
-        (plansAhead F es, (plans-leave F es, ahead-serves F es (formed-header w) (passed-together t w q h) (answer-fits t q h z)))
+        (plans_ahead F es, (plans_leave F es, ahead_serves F es (formed_header w) (passed_together t w q h) (answer_fits t q h z)))
 
-    pub offer-hopeless : offerAnswer t q ≡ 17 → (a : Assignment) → ServesOffer a → ⊥
-    offer-hopeless z a s =
-        clash (hasTime t q) (serves-ahead F (formed-header w) a (entry_of q ∷ held_of t) (passed-together t w q h) s.0 s.1)
-        (answer-not t q h z)
+    pub offer_hopeless : offer_answer t q ≡ 17 → (a : Assignment) → ServesOffer a → ⊥
+    offer_hopeless z a s =
+        clash (has_time t q) (serves_ahead F (formed_header w) a (entry_of q ∷ held_of t) (passed_together t w q h) s.0 s.1)
+        (answer_not t q h z)

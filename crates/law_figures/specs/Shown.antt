@@ -8,102 +8,102 @@ use Rattle.std.proofs.Math.Bool.{false, cond}
 use Rattle.std.proofs.Math.Decide.{ℕ_discrete}
 use Rattle.std.proofs.Math.Dec.{eqb}
 use borrow.Author.Tests.{eq-eqb, ne_eqb}
-use Rattle.base_lists.specs.Tests.{clash, cond-le}
-use Rattle.spec_model.specs.Entries.{freeEntry, is_held, isKind, isPiece}
+use Rattle.base_lists.specs.Tests.{clash, cond_le}
+use Rattle.spec_model.specs.Entries.{free_entry, is_held, is_kind, is_piece}
 use Rattle.spec_model.specs.declared.Entry.{Entry}
 use Rattle.spec_model.specs.declared.Frame.{Frame}
 use Rattle.spec_rules.specs.Ahead.{renewed, settled}
 use Rattle.spec_rules.specs.WellFormed.{Held}
 use Rattle.spec_rules.specs.Share.{load_of}
-use Rattle.law_model.specs.Loads.{load-of-free, load-of-standing}
-use Rattle.law_steps.specs.Held.{Fraction, Piece, held-kinds, held-is, piece-of, fraction-not}
-use Rattle.law_steps.specs.Ranks.{rank, Ranked, held-ranked, rankMost, held-rank, rankInterval, rank-free, rank_left, rank_most}
-use Rattle.law_ahead.specs.Served.{later, standing-same}
-use Rattle.law_ahead.specs.Leap.{eventIn, later-on}
-use Rattle.table_entry.specs.Amounts.{owedTo}
-use Rattle.ahead_figures.specs.Figures.{longest, never, end_of, beginOf, periodOf, figuresOf}
+use Rattle.law_model.specs.Loads.{load_of_free, load_of_standing}
+use Rattle.law_steps.specs.Held.{Fraction, Piece, held_kinds, held_is, piece_of_lem, fraction_not}
+use Rattle.law_steps.specs.Ranks.{rank, Ranked, held_ranked, rank_most, held_rank, rank_interval, rank_free, rank_left, rank_most_lem}
+use Rattle.law_ahead.specs.Served.{later, standing_same}
+use Rattle.law_ahead.specs.Leap.{event_in, later_on}
+use Rattle.table_entry.specs.Amounts.{owed_to}
+use Rattle.ahead_figures.specs.Figures.{longest, never, end_of, begin_of, period_of, figures_of}
 use Rattle.ahead_figures.specs.declared.Figures.{Figures}
-use Rattle.ahead_pass.specs.Passed.{passedEnd}
+use Rattle.ahead_pass.specs.Passed.{passed_end}
 
 -- the end of an entry's period or life, counted from where looking ahead began; in a free place nothing ends
 abbrev pub end_at : (now : ℕ) → Entry → ℕ
-end_at now e = cond (is_held e) (now + eventIn e) never
+end_at now e = cond (is_held e) (now + event_in e) never
 
 pub record Shown (now : ℕ) (e : Entry) (f : Figures) : Type 0 where
-  pub owed : f.owed.0 ≡ owedTo e
+  pub owed : f.owed.0 ≡ owed_to e
   pub end : f.end.0 ≡ end_at now e
   pub load : f.load.0 ≡ load_of e
-  pub begin : f.begin.0 ≡ beginOf e
+  pub begin : f.begin.0 ≡ begin_of e
   pub life : is_held e ≡ true → f.life.0 ≡ now + e.life_left.0
   pub soon : is_held e ≡ true → now + e.life_left.0 ≤ longest
-  pub period : is_held e ≡ true → f.period.0 ≡ periodOf e
+  pub period : is_held e ≡ true → f.period.0 ≡ period_of e
   pub short : f.period.0 ≤ longest
-  pub rank : isPiece e ≡ true → f.rank ≡ rank e + now * rankInterval
-  pub low : f.rank ≤ rankMost + now * rankInterval
+  pub rank : is_piece e ≡ true → f.rank ≡ rank e + now * rank_interval
+  pub low : f.rank ≤ rank_most + now * rank_interval
 
 -- ---- where looking ahead begins
-not-held : {A : Type 0} → is_held freeEntry ≡ true → A
-not-held z = absurd (clash false z refl)
+not_held : {A : Type 0} → is_held free_entry ≡ true → A
+not_held z = absurd (clash false z refl)
 
 module _ {F : Frame} {e : Entry} (h : Held F e) where
   lives : (1 ≤ e.life_left.0) × (e.life_left.0 ≤ longest)
   lives =
-      ⊎_elim (λ f. (f.alive, omega (arith, f.life-left, f.life-most))) (λ p. (p.alive, omega (arith, p.life-left, p.life-most)))
-      (held-kinds h)
+      ⊎_elim (λ f. (f.alive, omega (arith, f.life_left, f.life_most))) (λ p. (p.alive, omega (arith, p.life_left, p.life_most)))
+      (held_kinds h)
 
-  short-period : periodOf e ≤ longest
-  short-period = ⊎_elim (λ f. rw f.kind (omega arith)) (λ p. omega (arith, p.period-most, cond-le (isKind 2 e) e.period.0)) (held-kinds h)
+  short_period : period_of e ≤ longest
+  short_period = ⊎_elim (λ f. rw f.kind (omega arith)) (λ p. omega (arith, p.period_most, cond_le (is_kind 2 e) e.period.0)) (held_kinds h)
 
   -- the end where looking ahead begins
-  first-end : end_of e ≡ end_at 0 e
-  first-end = rw (held-is h) (go (isPiece e))
+  first_end_lem : end_of e ≡ end_at 0 e
+  first_end_lem = rw (held_is h) (go (is_piece e))
     where
       go : (b : Bool) → cond b e.left.0 e.life_left.0 ≡ 0 + cond b e.left.0 e.life_left.0
       go true = omega arith
       go false = omega arith
 
-pub shown-first : {F : Frame} (e : Entry) → (e ≡ freeEntry) ⊎ Held F e → Shown 0 e (figuresOf e)
-shown-first e (inl z) = subst (λ x. Shown 0 x (figuresOf x)) (sym z) (record {
+pub shown_first : {F : Frame} (e : Entry) → (e ≡ free_entry) ⊎ Held F e → Shown 0 e (figures_of e)
+shown_first e (inl z) = subst (λ x. Shown 0 x (figures_of x)) (sym z) (record {
   owed = refl;
   end = refl;
   load = refl;
   begin = refl;
-  life = not-held;
-  soon = not-held;
-  period = not-held;
+  life = not_held;
+  soon = not_held;
+  period = not_held;
   short = omega arith;
   rank = λ k. absurd (clash false k refl);
-  low = omega (arith, rank-free);
+  low = omega (arith, rank_free);
 })
-shown-first e (inr h) =
+shown_first e (inr h) =
     record {
       owed = refl;
-      end = first-end h;
+      end = first_end_lem h;
       load = refl;
       begin = refl;
       life = λ k. omega arith;
       soon = λ k. omega (arith, (lives h).1);
       period = λ k. refl;
-      short = short-period h;
+      short = short_period h;
       rank = λ k. omega arith;
-      low = omega (arith, held-rank h);
+      low = omega (arith, held_rank h);
     }
 
 -- ---- up to the nearest end: n intervals, b slots, and what stays owed
-settled-free : (e : Entry) → e.life_left.0 ≡ 0 → settled e ≡ freeEntry
+settled_free : (e : Entry) → e.life_left.0 ≡ 0 → settled e ≡ free_entry
 unfolding settled
-settled-free e z = rw (eq-eqb e.life_left.0 0 z)
+settled_free e z = rw (eq-eqb e.life_left.0 0 z)
 
-settled-anew : (e : Entry) → 1 ≤ e.life_left.0 → e.kind ≡ 2 → e.left.0 ≡ 0 → settled e ≡ renewed e
+settled_anew : (e : Entry) → 1 ≤ e.life_left.0 → e.kind ≡ 2 → e.left.0 ≡ 0 → settled e ≡ renewed e
 unfolding settled
-settled-anew e l k z = rw (ne_eqb e.life_left.0 0 (λ q. omega arith), k, z)
+settled_anew e l k z = rw (ne_eqb e.life_left.0 0 (λ q. omega arith), k, z)
 
 -- what is due at the end is paid
 abbrev pub stays : (at b : ℕ) → Entry → Figures → ℕ
-stays at b e f = cond (eqb f.end.0 at) 0 (owedTo e - b)
+stays at b e f = cond (eqb f.end.0 at) 0 (owed_to e - b)
 
-abbrev pub with-owed : ℕ → Figures → Figures
-with-owed o f =
+abbrev pub with_owed : ℕ → Figures → Figures
+with_owed o f =
     record {
       rank = f.rank;
       owed = record { 0 = o };
@@ -119,19 +119,19 @@ module _ (now n b : ℕ) (e : Entry) (f : Figures) (s : Shown now e f) (k : b �
   at = now + n
 
   abbrev Next : Type 0
-  Next = Shown at (settled (later n b e)) (passedEnd at (with-owed (stays at b e f) f))
+  Next = Shown at (settled (later n b e)) (passed_end at (with_owed (stays at b e f) f))
 
   -- ---- in a free place
-  shown-free : at < never → e ≡ freeEntry → Next
+  shown_free : at < never → e ≡ free_entry → Next
   unfolding settled
-  shown-free l z = rw (other, same) (record {
-    owed = omega (arith, ap owedTo z);
+  shown_free l z = rw (other, same) (record {
+    owed = omega (arith, ap owed_to z);
     end = here;
     load = s.load ∙ ap load_of z;
-    begin = s.begin ∙ ap beginOf z;
-    life = not-held;
-    soon = not-held;
-    period = not-held;
+    begin = s.begin ∙ ap begin_of z;
+    life = not_held;
+    soon = not_held;
+    period = not_held;
     short = s.short;
     rank = λ q. absurd (clash false q refl);
     low = omega (arith, s.low);
@@ -143,23 +143,23 @@ module _ (now n b : ℕ) (e : Entry) (f : Figures) (s : Shown now e f) (k : b �
       other : eqb f.end.0 at ≡ false
       other = ne_eqb f.end.0 at (λ q. omega (arith, q, here))
 
-      same : settled (later n b e) ≡ freeEntry
+      same : settled (later n b e) ≡ free_entry
       same = ap (λ (x : Entry). settled (later n b x)) z ∙ ap settled (still (omega (arith, ap (λ (x : Entry). x.owed.0) z)))
         where
-          still : b ≡ 0 → later n b freeEntry ≡ freeEntry
-          still q = standing-same freeEntry (omega arith) (omega arith) (omega arith) (omega arith)
+          still : b ≡ 0 → later n b free_entry ≡ free_entry
+          still q = standing_same free_entry (omega arith) (omega arith) (omega arith) (omega arith)
 
   module _ {F : Frame} (h : Held F e) where
-    ends : f.end.0 ≡ now + eventIn e
-    ends = s.end ∙ ap (λ c. cond c (now + eventIn e) never) (held-is h)
+    ends : f.end.0 ≡ now + event_in e
+    ends = s.end ∙ ap (λ c. cond c (now + event_in e) never) (held_is h)
 
     -- ---- nothing ends there
-    shown-on : n < eventIn e → Next
+    shown_on : n < event_in e → Next
     unfolding settled
-    shown-on l = rw (other, later-on n b e h l) (record {
-      owed = owed (isPiece e);
-      end = ends ∙ sym (ap (λ c. cond c (at + eventIn (later n b e)) never) (held-is h) ∙ event (isPiece e) l);
-      load = s.load ∙ sym (load-of-standing e _ _ _ _);
+    shown_on l = rw (other, later_on n b e h l) (record {
+      owed = owed (is_piece e);
+      end = ends ∙ sym (ap (λ c. cond c (at + event_in (later n b e)) never) (held_is h) ∙ event (is_piece e) l);
+      load = s.load ∙ sym (load_of_standing e _ _ _ _);
       begin = s.begin;
       life = λ q. s.life q ∙ sooner;
       soon = λ q. omega (arith, s.soon q, sooner);
@@ -182,60 +182,60 @@ module _ (now n b : ℕ) (e : Entry) (f : Figures) (s : Shown now e f) (k : b �
         event false l = omega arith
 
         -- no life ends sooner than its period
-        outlives : eventIn e ≤ e.life_left.0
+        outlives : event_in e ≤ e.life_left.0
         outlives =
-            ⊎_elim (λ x. omega (arith, ap (λ c. cond c e.left.0 e.life_left.0) (fraction-not e x.kind)))
-            (λ p. omega (arith, ap (λ c. cond c e.left.0 e.life_left.0) (piece-of e p.kind), p.lives)) (held-kinds h)
+            ⊎_elim (λ x. omega (arith, ap (λ c. cond c e.left.0 e.life_left.0) (fraction_not e x.kind)))
+            (λ p. omega (arith, ap (λ c. cond c e.left.0 e.life_left.0) (piece_of_lem e p.kind), p.lives)) (held_kinds h)
 
         sooner : now + e.life_left.0 ≡ at + (e.life_left.0 - n)
         sooner = omega (arith, outlives)
 
-        ranked : isPiece e ≡ true → rank e + now * rankInterval ≡ rank (later n b e) + at * rankInterval
+        ranked : is_piece e ≡ true → rank e + now * rank_interval ≡ rank (later n b e) + at * rank_interval
         ranked q = omega (arith, rank_left e (later n b e) refl refl, ap (λ c. cond c e.left.0 e.life_left.0) q)
 
     -- ---- it ends there
-    module _ (l : n ≡ eventIn e) where
+    module _ (l : n ≡ event_in e) where
       due : eqb f.end.0 at ≡ true
       due = eq-eqb f.end.0 at (omega (arith, ends))
 
-      shown-gone : e.life_left.0 ≡ n → Next
+      shown_gone : e.life_left.0 ≡ n → Next
       unfolding settled
-      shown-gone z = rw (due, eq-eqb f.life.0 at (omega (arith, s.life (held-is h))), settled-free (later n b e) (omega arith)) (record {
+      shown_gone z = rw (due, eq-eqb f.life.0 at (omega (arith, s.life (held_is h))), settled_free (later n b e) (omega arith)) (record {
         owed = refl;
         end = refl;
-        load = sym load-of-free;
+        load = sym load_of_free;
         begin = refl;
-        life = not-held;
-        soon = not-held;
-        period = not-held;
+        life = not_held;
+        soon = not_held;
+        period = not_held;
         short = s.short;
         rank = λ q. absurd (clash false q refl);
         low = omega (arith, s.low);
       })
 
-      shown-anew : (e.life_left.0 ≡ n → ⊥) → Next
+      shown_anew : (e.life_left.0 ≡ n → ⊥) → Next
       unfolding settled renewed
-      shown-anew z = ⊎_elim fraction piece (held-kinds h)
+      shown_anew z = ⊎_elim fraction piece (held_kinds h)
         where
           fraction : Fraction F e → Next
-          fraction x = absurd (z (omega (arith, ap (λ c. cond c e.left.0 e.life_left.0) (fraction-not e x.kind))))
+          fraction x = absurd (z (omega (arith, ap (λ c. cond c e.left.0 e.life_left.0) (fraction_not e x.kind))))
 
           piece : Piece F e → Next
-          piece p = rw (due, ne_eqb f.life.0 at lasting, settled-anew (later n b e) more whole over) (record {
+          piece p = rw (due, ne_eqb f.life.0 at lasting, settled_anew (later n b e) more whole over) (record {
             owed = s.begin ∙ rw (whole);
-            end = sym (ap (λ c. cond c (at + eventIn (renewed (later n b e))) never) (held-is h) ∙ rw (whole, follows));
-            load = s.load ∙ sym (load-of-standing (later n b e) _ _ _ _ ∙ load-of-standing e _ _ _ _);
+            end = sym (ap (λ c. cond c (at + event_in (renewed (later n b e))) never) (held_is h) ∙ rw (whole, follows));
+            load = s.load ∙ sym (load_of_standing (later n b e) _ _ _ _ ∙ load_of_standing e _ _ _ _);
             begin = s.begin;
             life = λ q. s.life q ∙ omega (arith, more);
             soon = λ q. omega (arith, s.soon q, more);
             period = s.period;
             short = s.short;
             rank = λ q. ranked;
-            low = omega (arith, ranked, rank_most {e = renewed (later n b e)} low-rank p.period-most);
+            low = omega (arith, ranked, rank_most_lem {e = renewed (later n b e)} low_rank p.period_most);
           })
             where
               soon : n ≡ e.left.0
-              soon = l ∙ ap (λ c. cond c e.left.0 e.life_left.0) (piece-of e p.kind)
+              soon = l ∙ ap (λ c. cond c e.left.0 e.life_left.0) (piece_of_lem e p.kind)
 
               -- another period follows, so it is of kind 2
               more : 1 ≤ e.life_left.0 - n
@@ -248,30 +248,30 @@ module _ (now n b : ℕ) (e : Entry) (f : Figures) (s : Shown now e f) (k : b �
               over = omega (arith, soon)
 
               follows : f.period.0 ≡ e.period.0
-              follows = s.period (held-is h) ∙ ap (λ c. cond c e.period.0 0) (eq-eqb e.kind 2 whole)
+              follows = s.period (held_is h) ∙ ap (λ c. cond c e.period.0 0) (eq-eqb e.kind 2 whole)
 
               -- its rank goes on by a period
-              ranked : f.rank + f.period.0 * rankInterval ≡ rank (renewed (later n b e)) + at * rankInterval
+              ranked : f.rank + f.period.0 * rank_interval ≡ rank (renewed (later n b e)) + at * rank_interval
               ranked =
                   omega (
                     arith,
                     rank_left e (renewed (later n b e)) refl refl,
-                    s.rank (piece-of e p.kind),
-                    ap (λ m. m * rankInterval) follows,
+                    s.rank (piece_of_lem e p.kind),
+                    ap (λ m. m * rank_interval) follows,
                     soon,
                   )
 
-              low-rank : Ranked (renewed (later n b e))
-              low-rank = record { kind = (held-ranked h).kind; name = (held-ranked h).name }
+              low_rank : Ranked (renewed (later n b e))
+              low_rank = record { kind = (held_ranked h).kind; name = (held_ranked h).name }
 
               lasting : f.life.0 ≡ at → ⊥
-              lasting q = z (omega (arith, s.life (held-is h)))
+              lasting q = z (omega (arith, s.life (held_is h)))
 
   -- ---- whatever it is
-  pub shown-next : {F : Frame} → (e ≡ freeEntry) ⊎ Held F e → at < never → (is_held e ≡ true → n ≤ eventIn e) → Next
-  shown-next (inl z) l q = shown-free l z
-  shown-next (inr h) l q =
-      elim (ℕ_discrete n (eventIn e)) [
-        | yes a ↦ elim (ℕ_discrete e.life_left.0 n) [ yes c ↦ shown-gone h a c | no c ↦ shown-anew h a c ]
-        | no a ↦ shown-on h (omega (arith, q (held-is h)))
+  pub shown_next : {F : Frame} → (e ≡ free_entry) ⊎ Held F e → at < never → (is_held e ≡ true → n ≤ event_in e) → Next
+  shown_next (inl z) l q = shown_free l z
+  shown_next (inr h) l q =
+      elim (ℕ_discrete n (event_in e)) [
+        | yes a ↦ elim (ℕ_discrete e.life_left.0 n) [ yes c ↦ shown_gone h a c | no c ↦ shown_anew h a c ]
+        | no a ↦ shown_on h (omega (arith, q (held_is h)))
       ]

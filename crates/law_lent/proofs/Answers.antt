@@ -22,7 +22,7 @@ use denote.Steps.{owned, nothing}
 use denote.Triple.Spec.{triple_of}
 use denote.Triple.Statement.{Contract, Triple}
 use denote.Triple.Clauses.{Ended, Clauses, closing, ensured, lasts}
-use Rattle.law_lent.proofs.Walk.{Gives, gives, calls-value}
+use Rattle.law_lent.proofs.Walk.{Gives, gives, calls_value}
 
 -- of an answer of R, by value, a number
 abbrev by_value : RattleType → Ended
@@ -37,8 +37,8 @@ by_value R = record {
 }
 
 module _ {M : Type 1} (𝓤 : Ura M) (R : RattleType) (number : R.Denot → ℕ) where
-  abbrev number-clauses : Clauses 𝓤 (by_value R)
-  number-clauses κs a = record {
+  abbrev number_clauses : Clauses 𝓤 (by_value R)
+  number_clauses κs a = record {
     ghost = Unit {0};
     requires = λ g. emp 𝓤;
     ensures = λ g r e. fact 𝓤 (r ≡ number a.0);
@@ -46,7 +46,7 @@ module _ {M : Type 1} (𝓤 : Ura M) (R : RattleType) (number : R.Denot → ℕ)
 
   module _ (𝓛 : Logic 𝓤) where
     abbrev pub Numbers : Contract 𝓤
-    Numbers = triple_of 𝓛 (by_value R).signature (closing 𝓛 (by_value R) number-clauses)
+    Numbers = triple_of 𝓛 (by_value R).signature (closing 𝓛 (by_value R) number_clauses)
 
     module _ (a : R.Denot) (v : Val) where
       abbrev pub to_number : Numbers.Ghost
@@ -58,19 +58,19 @@ module _ {M : Type 1} (𝓤 : Ura M) (R : RattleType) (number : R.Denot → ℕ)
 
       given : (w : Val) → ent 𝓤 (Numbers.post to_number w) (mean 𝓛 (Gives 𝓤 u32 (λ n. n ≡ number a) w))
       given w =
-          gives 𝓛 u32 (λ n. n ≡ number a) w (ensured 𝓛 (by_value R) number-clauses tt (a, tt) tt)
+          gives 𝓛 u32 (λ n. n ≡ number a) w (ensured 𝓛 (by_value R) number_clauses tt (a, tt) tt)
           (λ n. ex_e 𝓤 _ (λ ws. snd∗ 𝓤 (sem 𝓛 (lasts (by_value R) tt (a, tt) ws)) (fact 𝓤 (n ≡ number a))))
 
 module _ {M : Type 1} {𝓤 : Ura M} {𝓛 : Logic 𝓤} {Γ : List (Item 𝓤)} {C : Calls 𝓤 𝓛.H} {Λ : Loops 𝓤 𝓛.H}
     {E : Env 𝓤 𝓛.H} {Q : Post 𝓤 𝓛.H} {f : Name} {xs : List Operand} {d : Place} {rest : Code} (R : RattleType) (number : R.Denot → ℕ) where
   open 𝓛 use {H}
 
-  pub calls-number : Go {0} → FmC 𝓤 H 𝓛.laws C → Makes 𝓛 R (Is R) → Triple 𝓤 (C f) (Numbers 𝓤 R number 𝓛)
+  pub calls_number : Go {0} → FmC 𝓤 H 𝓛.laws C → Makes 𝓛 R (Is R) → Triple 𝓤 (C f) (Numbers 𝓤 R number 𝓛)
       → (a : R.Denot) (v : Val) → Is R a (v ∷ [])
       → Opds (Go {0}) 𝓛 (raw ((Numbers 𝓤 R number 𝓛).pre (to_number 𝓤 R number 𝓛 a v)) ∷ Γ) E xs (v ∷ [])
       → (number a < 2 ^ 32 → Seq (Go {0}) 𝓛 Γ (lands C Λ E d (vint w32 (number a)) rest Q))
       → Seq (Go {0}) 𝓛 Γ (runs C Λ E (seq (call f xs d) rest) Q)
-  calls-number z fm makes known a v is os k =
-      calls-value ! fm u32 (vint w32) (uint_Tells w32) (λ n. n ≡ number a) (Numbers 𝓤 R number 𝓛) known
+  calls_number z fm makes known a v is os k =
+      calls_value ! fm u32 (vint w32) (uint_Tells w32) (λ n. n ≡ number a) (Numbers 𝓤 R number 𝓛) known
       (to_number 𝓤 R number 𝓛 a v) (asked 𝓤 R number 𝓛 a v makes is) (given 𝓤 R number 𝓛 a v) os (λ n same is-n.
       regoal ! (λ m. lands C Λ E d (vint w32 m) rest Q) same refl $ k (subst (λ m. m < 2 ^ 32) same is-n.1))

@@ -30,8 +30,8 @@ pub record Plain : Type 2 where
   pub last : (x : row.Denot) → Last (row.exit yes) x
   pub silent : (x : row.Denot) (f : Last (row.exit yes) x) → left (row.exit yes) x f ≡ ftrue
 
-abbrev pub number-beside : Plain
-number-beside = record {
+abbrev pub number_beside : Plain
+number_beside = record {
   row = u32;
   vals = uint_vals w32;
   tells = uint_Tells w32;
@@ -40,8 +40,8 @@ number-beside = record {
   silent = λ x f. refl;
 }
 
-abbrev pub name-beside : Plain
-name-beside = record {
+abbrev pub name_beside : Plain
+name_beside = record {
   row = N.the_row;
   vals = LL.vals N.the_type N'.the_laws;
   tells = LL.tells N.the_type N'.the_laws;

@@ -11,30 +11,30 @@ use Rattle.spec_model.proofs.Table.TheLaws as T'
 use Rattle.spec_model.specs.Tables.{places}
 
 -- which of a table's fields has its entries
-abbrev pub entriesField : ℕ
-entriesField = 1
+abbrev pub entries_field : ℕ
+entries_field = 1
 
 abbrev begins : Option (Ty × ℕ) → ℕ
 begins none = 0
 begins (some f) = f.1
 
 -- the bytes before the first entry, and those of an entry
-abbrev pub headBytes : ℕ
-headBytes = begins (field_of T'.mir entriesField)
+abbrev pub head_bytes : ℕ
+head_bytes = begins (field_of T'.mir entries_field)
 
-abbrev pub entryBytes : ℕ
-entryBytes = size N'.mir
+abbrev pub entry_bytes : ℕ
+entry_bytes = size N'.mir
 
 -- where the entries of a table at the offset o begin, and where that of place i lies
-abbrev pub firstOffset : ℕ → ℕ
-firstOffset o = o + headBytes
+abbrev pub first_offset : ℕ → ℕ
+first_offset o = o + head_bytes
 
-abbrev pub entryOffset : ℕ → ℕ → ℕ
-entryOffset o i = spot entryBytes (firstOffset o) i
+abbrev pub entry_offset : ℕ → ℕ → ℕ
+entry_offset o i = spot entry_bytes (first_offset o) i
 
 -- how far it is from the first entry to that of place i
-abbrev pub offsetBytes : ℕ → ℕ
-offsetBytes i = i * entryBytes
+abbrev pub offset_bytes : ℕ → ℕ
+offset_bytes i = i * entry_bytes
 
-pub offset-fits : {i : ℕ} → i < places → offsetBytes i < 2 ^ 64
-offset-fits h = omega arith
+pub offset_fits : {i : ℕ} → i < places → offset_bytes i < 2 ^ 64
+offset_fits h = omega arith

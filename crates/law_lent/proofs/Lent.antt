@@ -29,7 +29,7 @@ use denote.Struct.Laws as LL
 use Rattle.spec_model.specs.declared.Table.{Table}
 use Rattle.spec_model.specs.contracts.Table as T
 use Rattle.spec_model.proofs.Table.TheLaws as T'
-use Rattle.law_lent.proofs.Locals.{type-of, Has, locals, cell, sets}
+use Rattle.law_lent.proofs.Locals.{type_of, Has, locals, cell, sets}
 
 -- a table's machine value
 abbrev pub machine : Table → Val
@@ -43,8 +43,8 @@ lent t = (T.the_row).coded.code t
 abbrev pub loan : Lft → ℕ → ℕ → GName → Fml
 loan κ b o γ = fbor κ (Body (mem T.the_row) b o γ)
 
-abbrev pub open-loan : Lft → Share → ℕ → ℕ → GName → Fml
-open-loan κ q b o γ = fobor κ q (Body (mem T.the_row) b o γ)
+abbrev pub open_loan : Lft → Share → ℕ → ℕ → GName → Fml
+open_loan κ q b o γ = fobor κ q (Body (mem T.the_row) b o γ)
 
 -- what the host has lent, at the table t: what it sees there, the borrow and its token
 abbrev pub Lent : {M : Type 1} (𝓤 : Ura M) → Lft → Share → ℕ → ℕ → GName → Table → List (Item 𝓤)
@@ -69,11 +69,11 @@ module _ {M : Type 1} {𝓤 : Ura M} {𝓛 : Logic 𝓤} {Γ : List (Item 𝓤)}
 
   module _ {κ : Lft} {q : Share} {γ : GName} (b o : ℕ) where
     -- the borrow opened: the table's cell, what the table owns, and what closes the borrow
-    pub table-opens : Go {0} → {G : Goal 𝓤 H} → Soaks G → (h : Table)
+    pub table_opens : Go {0} → {G : Goal 𝓤 H} → Soaks G → (h : Table)
         → (IsTable h → Seq (Go {0}) 𝓛 (‵ (fat full_share T'.mir b o (machine h)) ∷ ‵ ((T.the_row).own_val h (machine h ∷ []))
-        ∷ ‵ (open-loan κ q b o γ) ∷ ‵ (fobs γ (lent h)) ∷ ‵ (fauth γ (lent h)) ∷ Γ) G)
+        ∷ ‵ (open_loan κ q b o γ) ∷ ‵ (fobs γ (lent h)) ∷ ‵ (fauth γ (lent h)) ∷ Γ) G)
         → Seq (Go {0}) 𝓛 (‵ (fobs γ (lent h)) ∷ ‵ (loan κ b o γ) ∷ ‵ (flft κ q) ∷ Γ) G
-    table-opens t z h k =
+    table_opens t z h k =
         opens ! z T.the_row {h = h} b o (λ vs.
         spelt ! T.the_row (Is T.the_row) (shows 𝓛 T.the_row) (LL.vals T.the_type T'.the_laws) (LL.tells T.the_type T'.the_laws)
         full_share h vs b o $
@@ -83,27 +83,27 @@ module _ {M : Type 1} {𝓤 : Ura M} {𝓛 : Logic 𝓤} {Γ : List (Item 𝓤)}
     -- and closed, where another table lies in the cell
     pub table_closes : Go {0} → {G : Goal 𝓤 H} → Soaks G → {u v : Gv} (h : Table) → IsTable h
         → Step (Go {0}) 𝓛 (‵ (fobs γ (lent h)) ∷ ‵ (loan κ b o γ) ∷ ‵ (flft κ q) ∷ Γ) G
-        (‵ (fat full_share T'.mir b o (machine h)) ∷ ‵ (open-loan κ q b o γ) ∷ ‵ (fobs γ u) ∷ ‵ (fauth γ v) ∷ Γ) G
+        (‵ (fat full_share T'.mir b o (machine h)) ∷ ‵ (open_loan κ q b o γ) ∷ ‵ (fobs γ u) ∷ ‵ (fauth γ v) ∷ Γ) G
     table_closes t z h is = step (λ s.
         use1 𝓛 (‵ (cell_at full_share (T.the_row).mir (machine h ∷ []) b o)) (𝓛.laws.at_raw full_share T'.mir b o (machine h)) $
         owned ! T.the_row (Is T.the_row) ((LL.makes T.the_type T'.the_plain) 𝓛) h (machine h ∷ []) is $ move ! (1 ∷ 0 ∷ []) $
         closes ! z T.the_row h (machine h ∷ []) b o $ s)
 
 -- a value of the type that a local is known to have
-pub typed-as : (v : Val) {τ ρ : Ty} → τ ≡ ρ → Typed ρ v → Typed τ v
-typed-as v e typed = subst (λ (τ : Ty). Typed τ v) (sym e) typed
+pub typed_as : (v : Val) {τ ρ : Ty} → τ ≡ ρ → Typed ρ v → Typed τ v
+typed_as v e typed = subst (λ (τ : Ty). Typed τ v) (sym e) typed
 
 module _ {M : Type 1} {𝓤 : Ura M} {𝓛 : Logic 𝓤} {Γ : List (Item 𝓤)} {κ : Lft} {q : Share} {γ : GName}
     (b o : ℕ) {C : Calls 𝓤 𝓛.H} {Λ : Loops 𝓤 𝓛.H} {E : Env 𝓤 𝓛.H} {xs : List (Option Val)} {Q : Post 𝓤 𝓛.H}
   where
     -- the lent table is copied to the local _i, and _1 has the pointer to it
-    pub table-copied : Go {0} → {i : ℕ} → get_or xs 1 none ≡ some (vptr b o) → Has xs i → type-of E i ≡ T'.mir → {rest : Code} (h : Table)
+    pub table_copied : Go {0} → {i : ℕ} → get_or xs 1 none ≡ some (vptr b o) → Has xs i → type_of E i ≡ T'.mir → {rest : Code} (h : Table)
         → (IsTable h → Seq (Go {0}) 𝓛 (‵ (fat full_share T'.mir b o (machine h)) ∷ ‵ ((T.the_row).own_val h (machine h ∷ []))
-        ∷ ‵ (open-loan κ q b o γ) ∷ ‵ (fobs γ (lent h)) ∷ ‵ (fauth γ (lent h)) ∷ locals 𝓤 E (set xs i (some (machine h))) ∷ Γ)
+        ∷ ‵ (open_loan κ q b o γ) ∷ ‵ (fobs γ (lent h)) ∷ ‵ (fauth γ (lent h)) ∷ locals 𝓤 E (set xs i (some (machine h))) ∷ Γ)
         (runs C Λ E rest Q))
         → Seq (Go {0}) 𝓛 (‵ (fobs γ (lent h)) ∷ ‵ (loan κ b o γ) ∷ ‵ (flft κ q) ∷ locals 𝓤 E xs ∷ Γ)
         (runs C Λ E (seq (assign (place i []) (rv_opd (copy (place 1 (deref T'.mir ∷ []))))) rest) Q)
-    table-copied t at_1 has τ-is h k =
-        table-opens b o ! tt h (λ was.
+    table_copied t at_1 has τ-is h k =
+        table_opens b o ! tt h (λ was.
         sets ! 5 refl has (of_opd ! (load ! (from ! (hop ! (look_in ! 5 (cell ! 1 at_1)) (stop !))) (look ! 0 refl)))
-        (typed-as (machine h) τ-is ((LL.lawful T.the_type T'.the_laws 𝓛).typed h _ was).0) $ k was)
+        (typed_as (machine h) τ-is ((LL.lawful T.the_type T'.the_laws 𝓛).typed h _ was).0) $ k was)

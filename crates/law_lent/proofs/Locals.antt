@@ -44,8 +44,8 @@ abbrev pub locals : {M : Type 1} (𝓤 : Ura M) → List (Ty × ℕ) → List (O
 locals 𝓤 E xs = given (Locals E xs) (‵ (held E xs))
 
 -- the k-th local's type; and there is one
-abbrev pub type-of : List (Ty × ℕ) → ℕ → Ty
-type-of E k = (get_or E k (ty_enum [] ttnil, 0)).0
+abbrev pub type_of : List (Ty × ℕ) → ℕ → Ty
+type_of E k = (get_or E k (ty_enum [] ttnil, 0)).0
 
 abbrev pub Has : List (Option Val) → ℕ → Type 0
 Has [] k = ⊥
@@ -137,9 +137,9 @@ abbrev pub Blocks : List Local → (List (Ty × ℕ) → Type 1) → Type 1
 Blocks [] X = X []
 Blocks (local τ home ∷ ls) X = (l : ℕ) → Blocks ls (λ E. X ((τ, l) ∷ E))
 
-each-block : (ls : List Local) {X Y : List (Ty × ℕ) → Type 1} → ((E : List (Ty × ℕ)) → X E → Y E) → Blocks ls X → Blocks ls Y
-each-block [] f k = f [] k
-each-block (local τ home ∷ ls) f k = λ l. each-block ls (λ E. f ((τ, l) ∷ E)) (k l)
+each_block : (ls : List Local) {X Y : List (Ty × ℕ) → Type 1} → ((E : List (Ty × ℕ)) → X E → Y E) → Blocks ls X → Blocks ls Y
+each_block [] f k = f [] k
+each_block (local τ home ∷ ls) f k = λ l. each_block ls (λ E. f ((τ, l) ∷ E)) (k l)
 
 -- none holds anything yet
 abbrev pub rooms : List Local → List (Option Val)
@@ -149,10 +149,10 @@ rooms (l ∷ ls) = none ∷ rooms ls
 module _ {M : Type 1} {𝓤 : Ura M} (𝓛 : Logic 𝓤) where
   open 𝓛 use {H}
 
-  all-emptied : (E : List (Ty × ℕ)) (xs : List (Option Val)) (ks : List ℕ)
+  all_emptied : (E : List (Ty × ℕ)) (xs : List (Option Val)) (ks : List ℕ)
       → ent 𝓤 (sem 𝓛 (held E xs)) (sem 𝓛 (held E (without xs ks)))
-  all-emptied E xs [] = id⊢ 𝓤 (sem 𝓛 (held E xs))
-  all-emptied E xs (k ∷ ks) = via 𝓤 (sem 𝓛 (held E (set xs k none))) (emptied 𝓛 E xs k) (all-emptied E (set xs k none) ks)
+  all_emptied E xs [] = id⊢ 𝓤 (sem 𝓛 (held E xs))
+  all_emptied E xs (k ∷ ks) = via 𝓤 (sem 𝓛 (held E (set xs k none))) (emptied 𝓛 E xs k) (all_emptied E (set xs k none) ks)
 
   allocated : (ls : List Local) (R : SProp 𝓤) (Kt : List (Ty × ℕ) → SProp 𝓤)
       → Blocks ls (λ E. ent 𝓤 (sep 𝓤 (sem 𝓛 (held E (rooms ls))) R) (Kt E)) → ent 𝓤 R (alloc 𝓤 H ls Kt)
@@ -161,7 +161,7 @@ module _ {M : Type 1} {𝓤 : Ura M} (𝓛 : Logic 𝓤) where
   allocated (local τ home ∷ ls) R Kt k =
       all_i 𝓤 (λ (l : ℕ). wand 𝓤 (sep 𝓤 (H.room τ l 0) (H.dies τ l)) (alloc 𝓤 H ls (λ E. Kt ((τ, l) ∷ E)))) (λ l.
       wand_i 𝓤 R (sep 𝓤 (H.room τ l 0) (H.dies τ l)) (alloc 𝓤 H ls (λ E. Kt ((τ, l) ∷ E)))
-      (allocated ls (sep 𝓤 R (sep 𝓤 (H.room τ l 0) (H.dies τ l))) (λ E. Kt ((τ, l) ∷ E)) (each-block ls (λ E h.
+      (allocated ls (sep 𝓤 R (sep 𝓤 (H.room τ l 0) (H.dies τ l))) (λ E. Kt ((τ, l) ∷ E)) (each_block ls (λ E h.
       qed 𝓛 (‵ (held E (rooms ls)) ∷ raw R ∷ (‵ (froom τ l 0) ⊛ ‵ (fdies τ l)) ∷ []) ∵
       move ! (2 ∷ []) $ split ! $ fjoin ! $ fjoin ! $ by ! h) (k l))))
 
@@ -188,7 +188,7 @@ module _ {M : Type 1} {𝓤 : Ura M} {𝓛 : Logic 𝓤} {K : Type 0} where
   unfolding WpFn
   enters t {Γ} C Λ f vs Kf k = record {
     prf = allocated 𝓛 f.locals (⋆ 𝓛 Γ) (λ E. aim 𝓤 H (params' E vs (runs C Λ E f.body (at_ret E Kf))))
-        (each-block f.locals (λ E s.
+        (each_block f.locals (λ E s.
         via 𝓤 (sep 𝓤 (mean 𝓛 (locals 𝓤 E (rooms f.locals))) (⋆ 𝓛 Γ))
         (mono_l 𝓤 (⋆ 𝓛 Γ) (guard_i 𝓤 (Locals E (rooms f.locals)) (sem 𝓛 (held E (rooms f.locals))) are))
         (via 𝓤 (⋆ 𝓛 (locals 𝓤 E (rooms f.locals) ∷ Γ)) (push 𝓛 (locals 𝓤 E (rooms f.locals)) Γ) s.prf)) k);
@@ -204,7 +204,7 @@ module _ {M : Type 1} {𝓤 : Ura M} {𝓛 : Logic 𝓤} {K : Type 0} where
     -- what some hold is forgotten
     pub forgets : K → {G : Goal 𝓤 H} (ks : List ℕ) → Step K 𝓛 (locals 𝓤 E (without xs ks) ∷ Γ) G (locals 𝓤 E xs ∷ Γ) G
     forgets t ks = step (λ s. learn t (λ _.
-        use1 𝓛 (locals 𝓤 E (without xs ks)) (via 𝓤 (sem 𝓛 (held E (without xs ks))) (all-emptied 𝓛 E xs ks)
+        use1 𝓛 (locals 𝓤 E (without xs ks)) (via 𝓤 (sem 𝓛 (held E (without xs ks))) (all_emptied 𝓛 E xs ks)
         (guard_i 𝓤 (Locals E (without xs ks)) (sem 𝓛 (held E (without xs ks))) are)) $ s))
 
     -- entry n of the context is the locals; the k-th is given a value
@@ -230,7 +230,7 @@ module _ {M : Type 1} {𝓤 : Ura M} {𝓛 : Logic 𝓤} {K : Type 0} where
 
     -- a field of a local that holds a struct
     pub part : K → (n : ℕ) {k j : ℕ} {ν : Sym} {τs : Tys} {us : Vals} → nth 𝓛 n Γ ≡ locals 𝓤 E xs
-        → type-of E k ≡ ty_struct ν τs → get_or xs k none ≡ some (vstruct us) → Some (field_at 0 τs j)
+        → type_of E k ≡ ty_struct ν τs → get_or xs k none ≡ some (vstruct us) → Some (field_at 0 τs j)
         → Opd K 𝓛 Γ E (copy (place k (field j ∷ []))) (get_v us j)
     part t n {k} {j} {ν} {τs} {us} at_n τ-is e h =
         let at_j = (it (field_at 0 τs j) h).1 in

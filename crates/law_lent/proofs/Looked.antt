@@ -37,8 +37,8 @@ use Rattle.law_lent.proofs.Beside.{AreValues, lasts, fits, goes, had}
 use Rattle.law_lent.proofs.Entries.{table_at}
 
 module _ (Ps : List Plain) (R : RattleType) where
-  abbrev by-look : Ended
-  by-look = record {
+  abbrev by_look : Ended
+  by_look = record {
     signature = record {
       lifetimes = 1;
       outlives = [];
@@ -48,7 +48,7 @@ module _ (Ps : List Plain) (R : RattleType) where
     kept = (yes, kept Ps);
   }
 
-  abbrev stayed : Stays by-look.signature.params by-look.kept
+  abbrev stayed : Stays by_look.signature.params by_look.kept
   stayed = (stay_none_ref (0 ∷ []) tt (plain (λ _. T.the_row)) yes, stays Ps)
 
 -- the shared loan of the table h
@@ -62,8 +62,8 @@ Shared 𝓤 κ q b o γ h = ‵ (fres γ (lent h)) ∷ ‵ (look κ h b o) ∷ �
 -- Asks is what is required of the table and the values; Says, of these, is what holds of the result
 module _ {M : Type 1} (𝓤 : Ura M) (Ps : List Plain) (R : RattleType) (Asks : (κ : Lft) → Table → Values Ps κ → SProp 𝓤)
     (Says : (κ : Lft) → Table → Values Ps κ → R.Denot → Type 0) where
-  abbrev look-clauses : Clauses 𝓤 (by-look Ps R)
-  look-clauses κs a = record {
+  abbrev look_clauses : Clauses 𝓤 (by_look Ps R)
+  look_clauses κs a = record {
     ghost = Unit {0};
     requires = λ g. Asks κs.0 a.0.now a.1;
     ensures = λ g r e. fact 𝓤 (Says κs.0 a.0.now a.1 r);
@@ -80,34 +80,34 @@ module _ {M : Type 1} (𝓤 : Ura M) (Ps : List Plain) (R : RattleType) (Asks : 
       at = (vptr b o ∷ [], spelled Ps κ n)
 
       abbrev pub Post : Val → SProp 𝓤
-      Post = (walk_of 𝓛 (by-look Ps R) (stayed Ps R) look-clauses).post (((κ, tt), (q, tt), tt, x, at), tt)
+      Post = (walk_of 𝓛 (by_look Ps R) (stayed Ps R) look_clauses).post (((κ, tt), (q, tt), tt, x, at), tt)
 
       pub exits : AreValues Ps κ n → Makes 𝓛 R (Is R) → (r : R.Denot) (w : Val) → Says κ h n r → Is R r (w ∷ [])
           → ent 𝓤 (⋆ 𝓛 (Shared 𝓤 κ q b o γ h)) (Post w)
       exits are makes r w e is =
           qed 𝓛 (Shared 𝓤 κ q b o γ h) ∵
-          suffices ! _ (ends_at 𝓛 (by-look Ps R) (stayed Ps R) look-clauses (((κ, tt), (q, tt), tt, x, at), tt)
+          suffices ! _ (ends_at 𝓛 (by_look Ps R) (stayed Ps R) look_clauses (((κ, tt), (q, tt), tt, x, at), tt)
           w r (tt, lasts Ps κ n) (tt, fits Ps κ n)) $ says ! e $ nothing ! $ move ! (3 ∷ 0 ∷ []) $ join ! $ frame ! $
           feq_i ! (List Val) (vptr b o ∷ []) (vptr b o ∷ []) refl $ fjoin3 ! $
           use0 𝓛 (‵ (has_of (κ, tt) (slots Ps) (kept Ps) (stays Ps) n (lasts Ps κ n) (spelled Ps κ n))) (had 𝓛 Ps κ n are) $
           move ! (1 ∷ 0 ∷ []) $ fjoin ! $ owned ! R (Is R) makes r (w ∷ []) is $ move ! (1 ∷ 0 ∷ []) $ done !
 
       -- what is had at entry: the shared loan, and what is asked of its table
-      enters : ent 𝓤 (sep 𝓤 (on_entry 𝓛 (by-look Ps R).signature (κ, tt) (q, tt) x at) (Asks κ h n))
+      enters : ent 𝓤 (sep 𝓤 (on_entry 𝓛 (by_look Ps R).signature (κ, tt) (q, tt) x at) (Asks κ h n))
           (⋆ 𝓛 (‵ (fres γ (lent h)) ∷ ‵ (look κ h b o) ∷ ‵ (flft κ q) ∷ raw (Asks κ h n) ∷ []))
       enters =
           qed 𝓛 (((‵ (flft κ q) ⊛ ‵ ftrue) ⊛ ‵ (owns (ShrRef (named 0) κ T.the_row ∷ rows Ps κ) x at)) ∷ raw (Asks κ h n) ∷ []) ∵
           split ! $ split ! $ move ! (2 ∷ []) $ fsplit ! $ fsplit3 ! $ drop ! $ keep ! (0 ∷ 1 ∷ 3 ∷ 5 ∷ []) $ done !
 
-    pub look-meets : (𝓣 : Tables 𝓤 H) (f : Fn) → ((κ : Lft) (q : Share) (b o : ℕ) (γ : GName) (h : Table) (n : Values Ps κ) → AreValues Ps κ n
+    pub look_meets : (𝓣 : Tables 𝓤 H) (f : Fn) → ((κ : Lft) (q : Share) (b o : ℕ) (γ : GName) (h : Table) (n : Values Ps κ) → AreValues Ps κ n
         → ent 𝓤 (⋆ 𝓛 (‵ (fres γ (lent h)) ∷ ‵ (look κ h b o) ∷ ‵ (flft κ q) ∷ raw (Asks κ h n) ∷ []))
         (WpFn 𝓤 H 𝓣.C 𝓣.Λ f (vptr b o ∷ machines Ps κ n) (Post κ q b o γ h n)))
-        → Meets 𝓛 (by-look Ps R).signature (WpFn 𝓤 H 𝓣.C 𝓣.Λ f) (closing 𝓛 (by-look Ps R) look-clauses)
-    look-meets 𝓣 f walk =
-        walk_Meets 𝓛 (by-look Ps R) (stayed Ps R)
+        → Meets 𝓛 (by_look Ps R).signature (WpFn 𝓤 H 𝓣.C 𝓣.Λ f) (closing 𝓛 (by_look Ps R) look_clauses)
+    look_meets 𝓣 f walk =
+        walk_Meets 𝓛 (by_look Ps R) (stayed Ps R)
         (Goes-none_ref 𝓛 1 (0 ∷ []) tt (plain (λ _. T.the_row)) yes, goes 𝓛 Ps)
-        look-clauses (WpFn 𝓤 H 𝓣.C 𝓣.Λ f) (WpFn-mono 𝓤 H 𝓛.laws 𝓣 f)
-        (walked 𝓛 (by-look Ps R) (stayed Ps R) look-clauses (WpFn 𝓤 H 𝓣.C 𝓣.Λ f) (λ κs. (shr_vals, spells Ps κs.0))
+        look_clauses (WpFn 𝓤 H 𝓣.C 𝓣.Λ f) (WpFn-mono 𝓤 H 𝓛.laws 𝓣 f)
+        (walked 𝓛 (by_look Ps R) (stayed Ps R) look_clauses (WpFn 𝓤 H 𝓣.C 𝓣.Λ f) (λ κs. (shr_vals, spells Ps κs.0))
         (λ κs. (shr_Tells (named 0) κs.0 T.the_row, tellss Ps κs.0))
         (λ κs qs bounds a g are.
         via 𝓤 _ (enters κs.0 qs.0 a.0.ref_ptr.0 a.0.ref_ptr.1 0 a.0.now a.1)
@@ -116,24 +116,24 @@ module _ {M : Type 1} (𝓤 : Ura M) (Ps : List Plain) (R : RattleType) (Asks : 
 module _ {M : Type 1} {𝓤 : Ura M} {𝓛 : Logic 𝓤} {Γ : List (Item 𝓤)} {G : Goal 𝓤 𝓛.H}
     (h : Table) (b o : ℕ) where
   -- a table that lies in memory is one
-  is-table : Go {0} → (s : Share) → ((vs : List Val) → Is T.the_row h vs → Seq (Go {0}) 𝓛 (‵ (table_at s h b o) ∷ Γ) G)
+  is_table : Go {0} → (s : Share) → ((vs : List Val) → Is T.the_row h vs → Seq (Go {0}) 𝓛 (‵ (table_at s h b o) ∷ Γ) G)
       → Seq (Go {0}) 𝓛 (‵ (table_at s h b o) ∷ Γ) G
   unfolding part_of
-  is-table z s k =
+  is_table z s k =
       fpick ! (λ vs. fsplit ! $ move ! (1 ∷ []) $ peeks ! T.the_row (Is T.the_row) (shows 𝓛 T.the_row) h vs (λ is. move ! (1 ∷ 0 ∷ []) $
       fjoin ! $ fpack ! (List Val) (λ us. fsep (cell_at s (T.the_row).mir us b o) ((T.the_row).own_val h us)) vs $ k vs is))
 
 module _ {M : Type 1} {𝓤 : Ura M} {𝓛 : Logic 𝓤} {Γ : List (Item 𝓤)} {G : Goal 𝓤 𝓛.H} {κ : Lft} {q : Share}
     (h : Table) (b o : ℕ) where
   -- some share of the table is had while the shared loan is open
-  pub look-opens : Go {0} → Soaks G → ((s : Share) (vs : List Val) → Is T.the_row h vs
+  pub look_opens : Go {0} → Soaks G → ((s : Share) (vs : List Val) → Is T.the_row h vs
       → Seq (Go {0}) 𝓛 (‵ (table_at s h b o) ∷ ‵ (fobor κ q (table_at s h b o)) ∷ ‵ (look κ h b o) ∷ Γ) G)
       → Seq (Go {0}) 𝓛 (‵ (look κ h b o) ∷ ‵ (flft κ q) ∷ Γ) G
-  look-opens z soaks k =
+  look_opens z soaks k =
       shr_bor_dup ! $ move ! (0 ∷ 2 ∷ []) $ shr_bor-open ! soaks
       (part-halves 𝓛 T.the_row (Is T.the_row) (shows 𝓛 T.the_row) (LL.vals T.the_type T'.the_laws)
-      (LL.tells T.the_type T'.the_laws) ((LL.copy T.the_type T'.the_copy) 𝓛) h b o) (λ s. move ! (1 ∷ []) $ is-table h b o ! s (k s))
+      (LL.tells T.the_type T'.the_laws) ((LL.copy T.the_type T'.the_copy) 𝓛) h b o) (λ s. move ! (1 ∷ []) $ is_table h b o ! s (k s))
 
-  pub look-shuts : Go {0} → Soaks G → (s : Share)
+  pub look_shuts : Go {0} → Soaks G → (s : Share)
       → Step (Go {0}) 𝓛 (‵ (flft κ q) ∷ Γ) G (‵ (table_at s h b o) ∷ ‵ (fobor κ q (table_at s h b o)) ∷ Γ) G
-  look-shuts z soaks s = step (λ k. move ! (1 ∷ []) $ obor_close ! soaks $ drop ! $ k)
+  look_shuts z soaks s = step (λ k. move ! (1 ∷ []) $ obor_close ! soaks $ drop ! $ k)

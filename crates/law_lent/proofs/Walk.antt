@@ -50,9 +50,9 @@ is_false false h = refl
 module _ {M : Type 1} {𝓤 : Ura M} {𝓛 : Logic 𝓤} {Γ : List (Item 𝓤)} {C : Calls 𝓤 𝓛.H} {Λ : Loops 𝓤 𝓛.H}
     {E : Env 𝓤 𝓛.H} {Q : Post 𝓤 𝓛.H} {d : Place} {rest : Code} where
   -- what a call gives, r at the machine value w, where v spells out its machine value
-  pub tells-value : Go {0} → (R : RattleType) (v : R.Denot → Val) → Tells R (Is R) (λ r. v r ∷ []) → (r : R.Denot) (w : Val) → Is R r (w ∷ [])
+  pub tells_value : Go {0} → (R : RattleType) (v : R.Denot → Val) → Tells R (Is R) (λ r. v r ∷ []) → (r : R.Denot) (w : Val) → Is R r (w ∷ [])
       → (Is R r (v r ∷ []) → Seq (Go {0}) 𝓛 Γ (lands C Λ E d (v r) rest Q)) → Seq (Go {0}) 𝓛 Γ (lands C Λ E d w rest Q)
-  tells-value t R v tells r w is k =
+  tells_value t R v tells r w is k =
       regoal ! (λ z. lands C Λ E d z rest Q) (ap only (tells r (w ∷ []) is)) refl $ k (subst (Is R r) (tells r (w ∷ []) is) is)
 
 module _ {M : Type 1} {𝓤 : Ura M} {𝓛 : Logic 𝓤} {Γ : List (Item 𝓤)} {C : Calls 𝓤 𝓛.H} {Λ : Loops 𝓤 𝓛.H}
@@ -60,16 +60,16 @@ module _ {M : Type 1} {𝓤 : Ura M} {𝓛 : Logic 𝓤} {Γ : List (Item 𝓤)}
   -- the call at c's ghost value x; v spells out the machine value of its result
   open 𝓛 use {H}
 
-  pub calls-value : Go {0} → FmC 𝓤 H 𝓛.laws C → (R : RattleType) (v : R.Denot → Val) → Tells R (Is R) (λ r. v r ∷ [])
+  pub calls_value : Go {0} → FmC 𝓤 H 𝓛.laws C → (R : RattleType) (v : R.Denot → Val) → Tells R (Is R) (λ r. v r ∷ [])
       → (φ : R.Denot → Type 0) (c : Contract 𝓤) → Triple 𝓤 (C f) c
       → (x : c.Ghost) → ent 𝓤 (emp 𝓤) (c.pre x) → ((w : Val) → ent 𝓤 (c.post x w) (mean 𝓛 (Gives 𝓤 R φ w)))
       → Opds (Go {0}) 𝓛 (raw (c.pre x) ∷ Γ) E xs (c.args x)
       → ((r : R.Denot) → φ r → Is R r (v r ∷ []) → Seq (Go {0}) 𝓛 Γ (lands C Λ E d (v r) rest Q))
       → Seq (Go {0}) 𝓛 Γ (runs C Λ E (seq (call f xs d) rest) Q)
-  calls-value t fm R v tells φ c known x asked given os k =
+  calls_value t fm R v tells φ c known x asked given os k =
       use0 𝓛 (raw (c.pre x)) asked $ calls_at ! fm c known x os (λ w.
       use1 𝓛 (Gives 𝓤 R φ w) (given w) $ await ! tt $ pick ! (λ r. split ! $
-      facts ! R (Is R) (shows 𝓛 R) r (w ∷ []) (λ is. heard ! (φ r) (λ e. tells-value ! R v tells r w is (k r e)))))
+      facts ! R (Is R) (shows 𝓛 R) r (w ∷ []) (λ is. heard ! (φ r) (λ e. tells_value ! R v tells r w is (k r e)))))
 
 module _ {M : Type 1} {𝓤 : Ura M} {𝓛 : Logic 𝓤} {Γ : List (Item 𝓤)} {C : Calls 𝓤 𝓛.H} {Λ : Loops 𝓤 𝓛.H}
     {E : Env 𝓤 𝓛.H} {Q : Post 𝓤 𝓛.H} {x : Operand} {then rest : Code} where

@@ -5,75 +5,75 @@ use Rattle.std.specs.Prelude.{Bool, cond, not, ℕ, ◌+◌, ◌*◌, ◌-◌, �
 use Rattle.std.proofs.Math.Bool.{true, false}
 use Rattle.spec_lists.specs.Lists.{within}
 use Rattle.base_lists.specs.Tests.{within_both}
-use Rattle.spec_model.specs.Frames.{slotsIn, headerIn, roomIn}
+use Rattle.spec_model.specs.Frames.{slots_in, header_in, room_in}
 use Rattle.spec_model.specs.Requests.{refusal}
 use Rattle.spec_model.specs.declared.Frame.{Frame}
 use Rattle.spec_model.specs.declared.Setting.{Setting}
-use Rattle.spec_model.specs.Tables.{noneHeld}
-use Rattle.spec_rules.specs.Settings.{unitSlots, slots_of, openAnswer, Succeeds, frame_of, opened}
+use Rattle.spec_model.specs.Tables.{none_held}
+use Rattle.spec_rules.specs.Settings.{unit_slots, slots_of, open_answer, Succeeds, frame_of, opened}
 
 -- ---- what may be given, and the header
-pub room_most : (F : Frame) → roomIn F ≤ slotsIn F
-unfolding roomIn
+pub room_most : (F : Frame) → room_in F ≤ slots_in F
+unfolding room_in
 room_most F = omega arith
 
-pub room-less : (F : Frame) → roomIn F ≡ slotsIn F - headerIn F
-unfolding roomIn
-room-less F = refl
+pub room_less : (F : Frame) → room_in F ≡ slots_in F - header_in F
+unfolding room_in
+room_less F = refl
 
-pub room-header : (F : Frame) → headerIn F ≤ slotsIn F → roomIn F + headerIn F ≡ slotsIn F
-unfolding roomIn
-room-header F h = omega arith
+pub room_header : (F : Frame) → header_in F ≤ slots_in F → room_in F + header_in F ≡ slots_in F
+unfolding room_in
+room_header F h = omega arith
 
 -- the most slots of an interval, of 1,000 time units
-abbrev pub mostSlots : ℕ
-mostSlots = 1024000
+abbrev pub most_slots : ℕ
+most_slots = 1024000
 
 -- ---- a successful opening
 module _ (s : Setting) where
   -- both checks pass
-  opening-both : Succeeds s → (within 1 1000 s.units ≡ true) × (ltb s.header (slots_of s) ≡ true)
-  unfolding openAnswer refusal
-  opening-both h = go (within 1 1000 s.units) (ltb s.header (slots_of s)) h
+  opening_both : Succeeds s → (within 1 1000 s.units ≡ true) × (ltb s.header (slots_of s) ≡ true)
+  unfolding open_answer refusal
+  opening_both h = go (within 1 1000 s.units) (ltb s.header (slots_of s)) h
     where
       go : (a b : Bool) → ◌≡◌ {A = ℕ} (cond (not a) 1 (cond (not b) 61 0)) 0 → (a ≡ true) × (b ≡ true)
       go true true z = (refl, refl)
       go true false z = absurd (omega arith)
       go false b z = absurd (omega arith)
 
-  pub opening-units : Succeeds s → within 1 1000 s.units ≡ true
-  opening-units h = (opening-both h).0
+  pub opening_units : Succeeds s → within 1 1000 s.units ≡ true
+  opening_units h = (opening_both h).0
 
-  pub opening-header : Succeeds s → s.header < slots_of s
-  opening-header h = ltb-true s.header (slots_of s) (opening-both h).1
+  pub opening_header : Succeeds s → s.header < slots_of s
+  opening_header h = ltb-true s.header (slots_of s) (opening_both h).1
 
-  pub units-opening : within 1 1000 s.units ≡ true → ltb s.header (slots_of s) ≡ true → Succeeds s
-  unfolding openAnswer refusal
-  units-opening h k = rw (h, k)
+  pub units_opening : within 1 1000 s.units ≡ true → ltb s.header (slots_of s) ≡ true → Succeeds s
+  unfolding open_answer refusal
+  units_opening h k = rw (h, k)
 
-  pub frame-slots : slotsIn (frame_of s) ≡ slots_of s
+  pub frame_slots : slots_in (frame_of s) ≡ slots_of s
   unfolding frame_of
-  frame-slots = refl
+  frame_slots = refl
 
-  pub frame-header : headerIn (frame_of s) ≡ s.header
+  pub frame_header : header_in (frame_of s) ≡ s.header
   unfolding frame_of
-  frame-header = refl
+  frame_header = refl
 
 -- a table in which no place is held
-pub opened-none : (s : Setting) → opened s ≡ noneHeld (frame_of s)
+pub opened_none : (s : Setting) → opened s ≡ none_held (frame_of s)
 unfolding opened
-opened-none s = refl
+opened_none s = refl
 
 module _ {F : Frame} (o : (s : Setting) × Succeeds s × (F ≡ frame_of s)) where
-  slots : slotsIn F ≡ unitSlots * o.0.units
-  slots = ap slotsIn o.2 ∙ frame-slots o.0
+  slots : slots_in F ≡ unit_slots * o.0.units
+  slots = ap slots_in o.2 ∙ frame_slots o.0
 
-  pub frame-some : unitSlots ≤ slotsIn F
-  frame-some = omega (arith, slots, within_both 1 1000 o.0.units (opening-units o.0 o.1))
+  pub frame_some : unit_slots ≤ slots_in F
+  frame_some = omega (arith, slots, within_both 1 1000 o.0.units (opening_units o.0 o.1))
 
   -- the header leaves a slot
-  pub header-less : headerIn F < slotsIn F
-  header-less = omega (arith, ap headerIn o.2 ∙ frame-header o.0, slots, opening-header o.0 o.1)
+  pub header_less : header_in F < slots_in F
+  header_less = omega (arith, ap header_in o.2 ∙ frame_header o.0, slots, opening_header o.0 o.1)
 
-  pub frame-most : slotsIn F ≤ mostSlots
-  frame-most = omega (arith, slots, within_both 1 1000 o.0.units (opening-units o.0 o.1))
+  pub frame_most : slots_in F ≤ most_slots
+  frame_most = omega (arith, slots, within_both 1 1000 o.0.units (opening_units o.0 o.1))

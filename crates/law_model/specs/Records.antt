@@ -2,53 +2,53 @@
 use Rattle.std.specs.Prelude.{◌≡◌, refl, List, [], ◌∷◌, ◌++◌, ℕ, zero, suc, ◌+◌, ◌*◌, ◌<◌, length, drop, get_or}
 use Rattle.std.proofs.Common.{sym, ap, ap₂, ◌∙◌, append_assoc, arith, length-append, drop-drop}
 use Rattle.spec_rules.specs.Slots.{Run}
-use Rattle.spec_rules.specs.Records.{recordWords, wordsOfRun, recordAt, words_of, recordsOf}
+use Rattle.spec_rules.specs.Records.{record_words, words_of_run, record_at, words_of, records_of}
 
-pub run-words : (r : Run) → length (wordsOfRun r) ≡ recordWords
-unfolding wordsOfRun
-run-words r = refl
+pub run_words : (r : Run) → length (words_of_run r) ≡ record_words
+unfolding words_of_run
+run_words r = refl
 
 -- after a record's words it is read back, and the words behind it are left
-pub record-back : (r : Run) (ws : List ℕ) → recordAt (wordsOfRun r ++ ws) ≡ r
-unfolding wordsOfRun recordAt
-record-back r ws = refl
+pub record_back : (r : Run) (ws : List ℕ) → record_at (words_of_run r ++ ws) ≡ r
+unfolding words_of_run record_at
+record_back r ws = refl
 
-pub drop-record : (r : Run) (ws : List ℕ) → drop recordWords (wordsOfRun r ++ ws) ≡ ws
-unfolding wordsOfRun
-drop-record r ws = refl
+pub drop_record : (r : Run) (ws : List ℕ) → drop record_words (words_of_run r ++ ws) ≡ ws
+unfolding words_of_run
+drop_record r ws = refl
 
 -- ---- the words of a plan
-pub length-words : (rs : List Run) → length (words_of rs) ≡ recordWords * length rs
+pub length_words : (rs : List Run) → length (words_of rs) ≡ record_words * length rs
 unfolding words_of
-length-words [] = refl
-length-words (r ∷ rs) = length-append (wordsOfRun r) (words_of rs) ∙ omega (arith, run-words r, length-words rs)
+length_words [] = refl
+length_words (r ∷ rs) = length-append (words_of_run r) (words_of rs) ∙ omega (arith, run_words r, length_words rs)
 
 pub words_append : (xs ys : List Run) → words_of (xs ++ ys) ≡ words_of xs ++ words_of ys
 unfolding words_of
 words_append [] ys = refl
-words_append (x ∷ xs) ys = ap (λ ws. wordsOfRun x ++ ws) (words_append xs ys) ∙ sym (append_assoc (wordsOfRun x) (words_of xs) (words_of ys))
+words_append (x ∷ xs) ys = ap (λ ws. words_of_run x ++ ws) (words_append xs ys) ∙ sym (append_assoc (words_of_run x) (words_of xs) (words_of ys))
 
 -- the records of a plan's words, whatever stands behind them
-pub records-back : (rs : List Run) (ws : List ℕ) → recordsOf (length rs) (words_of rs ++ ws) ≡ rs
-unfolding recordsOf words_of
-records-back [] ws = refl
-records-back (r ∷ rs) ws =
-    ap (λ l. recordAt l ∷ recordsOf (length rs) (drop recordWords l)) (append_assoc (wordsOfRun r) (words_of rs) ws)
-    ∙ ap₂ ◌∷◌ (record-back r (words_of rs ++ ws))
-    (ap (recordsOf (length rs)) (drop-record r (words_of rs ++ ws)) ∙ records-back rs ws)
+pub records_back : (rs : List Run) (ws : List ℕ) → records_of (length rs) (words_of rs ++ ws) ≡ rs
+unfolding records_of words_of
+records_back [] ws = refl
+records_back (r ∷ rs) ws =
+    ap (λ l. record_at l ∷ records_of (length rs) (drop record_words l)) (append_assoc (words_of_run r) (words_of rs) ws)
+    ∙ ap₂ ◌∷◌ (record_back r (words_of rs ++ ws))
+    (ap (records_of (length rs)) (drop_record r (words_of rs ++ ws)) ∙ records_back rs ws)
 
 -- ---- records read from any words
-pub records-length : (n : ℕ) (ws : List ℕ) → length (recordsOf n ws) ≡ n
-unfolding recordsOf
-records-length zero ws = refl
-records-length (suc n) ws = ap suc (records-length n (drop recordWords ws))
+pub records_length : (n : ℕ) (ws : List ℕ) → length (records_of n ws) ≡ n
+unfolding records_of
+records_length zero ws = refl
+records_length (suc n) ws = ap suc (records_length n (drop record_words ws))
 
-pub records-at : (n i : ℕ) (ws : List ℕ) (d : Run) → i < n → get_or (recordsOf n ws) i d ≡ recordAt (drop (recordWords * i) ws)
-unfolding recordsOf
-records-at zero i ws d h = absurd (omega arith)
-records-at (suc n) zero ws d h = refl
-records-at (suc n) (suc i) ws d h =
-    records-at n i (drop recordWords ws) d (omega arith) ∙ ap recordAt (drop-drop (recordWords * i) recordWords ws ∙ ap (λ k. drop k ws) more)
+pub records_at : (n i : ℕ) (ws : List ℕ) (d : Run) → i < n → get_or (records_of n ws) i d ≡ record_at (drop (record_words * i) ws)
+unfolding records_of
+records_at zero i ws d h = absurd (omega arith)
+records_at (suc n) zero ws d h = refl
+records_at (suc n) (suc i) ws d h =
+    records_at n i (drop record_words ws) d (omega arith) ∙ ap record_at (drop-drop (record_words * i) record_words ws ∙ ap (λ k. drop k ws) more)
   where
-    more : recordWords + recordWords * i ≡ recordWords * suc i
+    more : record_words + record_words * i ≡ record_words * suc i
     more = omega arith

@@ -2,23 +2,23 @@
 -- make the calls of one list, each row shows what is seen of its call, and demand 3 holds of that list. Document 01, "Reading, lending,
 -- printing" and "What a list of calls gives". docs/GUARANTEE.md reads the statement line by line. Assumes nothing.
 use Rattle.std.specs.Prelude.{◌≡◌, ◌≢◌, Bool, true, false, List, [], ◌∷◌, ◌++◌, map, ℕ, eqb, length, take, drop, replicate}
-use Rattle.spec_lists.specs.Lists.{concatMap}
+use Rattle.spec_lists.specs.Lists.{concat_map}
 use Rattle.spec_lists.specs.All.{All}
 use Rattle.spec_text.specs.Rows.{rows_of}
-use Rattle.spec_shelf.specs.Commands.{openVerb, offerVerb, withdrawVerb, beaconVerb, commandOf}
+use Rattle.spec_shelf.specs.Commands.{open_verb, offer_verb, withdraw_verb, beacon_verb, command_of}
 use Rattle.spec_shelf.specs.declared.Command.{Command}
 use Rattle.spec_shelf.specs.declared.Command.TheVariants.{Open, Offer as OfferRow, Withdraw as WithdrawRow, Beacon as BeaconRow, OtherForm}
 use Rattle.spec_model.specs.declared.Setting.{Setting}
 use Rattle.spec_model.specs.declared.Table.{Table}
 use Rattle.spec_rules.specs.Slots.{Run}
-use Rattle.spec_rules.specs.Records.{planWords}
-use Rattle.spec_rules.specs.Settings.{openAnswer, Succeeds, opened}
-use Rattle.spec_shelf.specs.Printed.{headerRow, plainRow, streamRow, slotRowOf}
+use Rattle.spec_rules.specs.Records.{plan_words}
+use Rattle.spec_rules.specs.Settings.{open_answer, Succeeds, opened}
+use Rattle.spec_shelf.specs.Printed.{header_row, plain_row, stream_row, slot_row_of}
 use Rattle.spec_shelf.specs.declared.State.{State}
-use Rattle.spec_shelf.specs.Meaning.{firstState, withTable, rowVerb, outputOf}
-use Rattle.shelf_state.specs.Cutting.{firstShelf}
-use Rattle.shelf_state.specs.Whole.{stateRun, served}
-use Rattle.spec_demand.specs.History.{Call, Offer, Withdraw, Beacon, Seen, seen, after, history, tableAfter}
+use Rattle.spec_shelf.specs.Meaning.{first_state, with_table, row_verb, output_of}
+use Rattle.shelf_state.specs.Cutting.{first_shelf}
+use Rattle.shelf_state.specs.Whole.{state_run, served}
+use Rattle.spec_demand.specs.History.{Call, Offer, Withdraw, Beacon, Seen, seen, after, history, table_after}
 use Rattle.spec_demand.specs.Demand.{Demanded}
 
 -- ---- the cut
@@ -33,40 +33,40 @@ pub record Cut : Type 0 where
   pub segments : List Segment
 
 -- one more row in front: of openings only one that succeeds begins a segment
-abbrev pub addsRow : Command → Cut → Cut
-addsRow c k = record { early = c ∷ k.early; segments = k.segments }
+abbrev pub adds_row : Command → Cut → Cut
+adds_row c k = record { early = c ∷ k.early; segments = k.segments }
 
 abbrev pub opens : (succeeds : Bool) → Setting → Cut → Cut
 opens true s k = record { early = []; segments = record { setting = s; rows = k.early } ∷ k.segments }
-opens false s k = addsRow (Open s) k
+opens false s k = adds_row (Open s) k
 
-abbrev pub inFront : Command → Cut → Cut
-inFront (Open s) k = opens (eqb (openAnswer s) 0) s k
-inFront (OfferRow q) k = addsRow (OfferRow q) k
-inFront (WithdrawRow n) k = addsRow (WithdrawRow n) k
-inFront BeaconRow k = addsRow BeaconRow k
-inFront OtherForm k = addsRow OtherForm k
+abbrev pub in_front : Command → Cut → Cut
+in_front (Open s) k = opens (eqb (open_answer s) 0) s k
+in_front (OfferRow q) k = adds_row (OfferRow q) k
+in_front (WithdrawRow n) k = adds_row (WithdrawRow n) k
+in_front BeaconRow k = adds_row BeaconRow k
+in_front OtherForm k = adds_row OtherForm k
 
 unfoldable pub cut : List Command → Cut
 cut [] = record { early = []; segments = [] }
-cut (c ∷ cs) = inFront c (cut cs)
+cut (c ∷ cs) = in_front c (cut cs)
 
 -- what makes k the cut of the rows cs: every row is in its place, the opening of each segment succeeds, and no other does
 abbrev pub Refused : Command → Type 0
-Refused c = (s : Setting) → c ≡ Open s → openAnswer s ≢ 0
+Refused c = (s : Setting) → c ≡ Open s → open_answer s ≢ 0
 
-abbrev pub withOpening : Segment → List Command
-withOpening g = Open g.setting ∷ g.rows
+abbrev pub with_opening : Segment → List Command
+with_opening g = Open g.setting ∷ g.rows
 
 pub record Cuts (cs : List Command) (k : Cut) : Type 0 where
-  pub all : cs ≡ k.early ++ concatMap withOpening k.segments
+  pub all : cs ≡ k.early ++ concat_map with_opening k.segments
   pub early : All Refused k.early
   pub segments : All (λ g. Succeeds g.setting × All Refused g.rows) k.segments
 
 -- ---- the calls that rows make
 -- as many words as the program lends a beacon
 unfoldable pub memory : List ℕ
-memory = replicate planWords 0
+memory = replicate plan_words 0
 
 -- a refused opening and a row of another form make none
 abbrev pub call_of : Command → List Call
@@ -77,47 +77,47 @@ call_of BeaconRow = Beacon memory ∷ []
 call_of OtherForm = []
 
 abbrev pub calls_of : List Command → List Call
-calls_of cs = concatMap call_of cs
+calls_of cs = concat_map call_of cs
 
 -- ---- the rows that show them
 -- a call with its answer a, and a beacon with its plan rs
-abbrev pub rowsOfCall : Call → (a : ℕ) → List Run → List ℕ
-rowsOfCall (Offer q) a rs = streamRow offerVerb q.name a
-rowsOfCall (Withdraw n) a rs = streamRow withdrawVerb n a
-rowsOfCall (Beacon ws) a rs = plainRow beaconVerb a ++ concatMap slotRowOf rs
+abbrev pub rows_of_call : Call → (a : ℕ) → List Run → List ℕ
+rows_of_call (Offer q) a rs = stream_row offer_verb q.name a
+rows_of_call (Withdraw n) a rs = stream_row withdraw_verb n a
+rows_of_call (Beacon ws) a rs = plain_row beacon_verb a ++ concat_map slot_row_of rs
 
-abbrev pub rowsSeen : Seen → List ℕ
-rowsSeen v = rowsOfCall v.call v.answer v.plan
+abbrev pub rows_seen : Seen → List ℕ
+rows_seen v = rows_of_call v.call v.answer v.plan
 
-abbrev pub nextRows : List Seen → List ℕ
-nextRows [] = []
-nextRows (v ∷ vs) = rowsSeen v
+abbrev pub next_rows : List Seen → List ℕ
+next_rows [] = []
+next_rows (v ∷ vs) = rows_seen v
 
 -- the rows printed for the rows cs, where vs is seen of their calls: a call shows the next of vs, a refused opening its answer, another
 -- form 50
 unfoldable pub shown : List Command → List Seen → List ℕ
 shown [] vs = []
-shown (Open s ∷ cs) vs = plainRow openVerb (openAnswer s) ++ shown cs vs
-shown (OfferRow q ∷ cs) vs = nextRows vs ++ shown cs (drop 1 vs)
-shown (WithdrawRow n ∷ cs) vs = nextRows vs ++ shown cs (drop 1 vs)
-shown (BeaconRow ∷ cs) vs = nextRows vs ++ shown cs (drop 1 vs)
-shown (OtherForm ∷ cs) vs = plainRow rowVerb 50 ++ shown cs vs
+shown (Open s ∷ cs) vs = plain_row open_verb (open_answer s) ++ shown cs vs
+shown (OfferRow q ∷ cs) vs = next_rows vs ++ shown cs (drop 1 vs)
+shown (WithdrawRow n ∷ cs) vs = next_rows vs ++ shown cs (drop 1 vs)
+shown (BeaconRow ∷ cs) vs = next_rows vs ++ shown cs (drop 1 vs)
+shown (OtherForm ∷ cs) vs = plain_row row_verb 50 ++ shown cs vs
 
 -- before the first successful opening each call answers 51, and there is no plan
 abbrev pub unopened : Call → Seen
 unopened c = record { call = c; answer = 51; plan = [] }
 
-abbrev pub earlyRows : List Command → List ℕ
-earlyRows cs = shown cs (map unopened (calls_of cs))
+abbrev pub early_rows : List Command → List ℕ
+early_rows cs = shown cs (map unopened (calls_of cs))
 
 -- the opening's row, and those of the history from its table
-abbrev pub segmentRows : Segment → List ℕ
-segmentRows g = plainRow openVerb 0 ++ shown g.rows (history (opened g.setting) (calls_of g.rows))
+abbrev pub segment_rows : Segment → List ℕ
+segment_rows g = plain_row open_verb 0 ++ shown g.rows (history (opened g.setting) (calls_of g.rows))
 
 -- the table that the last segment leaves
 unfoldable pub leaves : State → List Segment → State
 leaves s [] = s
-leaves s (g ∷ gs) = leaves (withTable (tableAfter (opened g.setting) (calls_of g.rows))) gs
+leaves s (g ∷ gs) = leaves (with_table (table_after (opened g.setting) (calls_of g.rows))) gs
 
 -- a beacon on table t answers, plans and leaves the same, whether it is lent the words ws or us
 pub record AsLent (t : Table) (ws us : List ℕ) : Type 0 where
@@ -128,24 +128,24 @@ pub record AsLent (t : Table) (ws us : List ℕ) : Type 0 where
 -- ---- the statement
 module _ (input : List ℕ) where
   abbrev pub commands : List Command
-  commands = map commandOf (rows_of input)
+  commands = map command_of (rows_of input)
 
-  abbrev pub earlyOf : List Command
-  earlyOf = (cut commands).early
+  abbrev pub early_of : List Command
+  early_of = (cut commands).early
 
-  abbrev pub segmentsOf : List Segment
-  segmentsOf = (cut commands).segments
+  abbrev pub segments_of : List Segment
+  segments_of = (cut commands).segments
 
   pub record ShelfKeeps : Type 0 where
     -- what the program serves, chunk by chunk and then the last row, is the output, in whatever chunks the input comes
-    pub chunks : (cs : List (List ℕ)) → concatMap (λ c. c) cs ≡ input → headerRow ++ served firstShelf cs ≡ outputOf input
+    pub chunks : (cs : List (List ℕ)) → concat_map (λ c. c) cs ≡ input → header_row ++ served first_shelf cs ≡ output_of input
     -- every row of the input stands in the cut
     pub cuts : Cuts commands (cut commands)
     -- every byte of the output: the header, the rows that no table answers, and history after history
-    pub output : outputOf input ≡ headerRow ++ (earlyRows earlyOf ++ concatMap segmentRows segmentsOf)
+    pub output : output_of input ≡ header_row ++ (early_rows early_of ++ concat_map segment_rows segments_of)
     -- the table after the first n rows is the one after the same calls
-    pub table : (n : ℕ) → let cs = take n commands in stateRun firstState cs ≡ leaves firstState (cut cs).segments
+    pub table : (n : ℕ) → let cs = take n commands in state_run first_state cs ≡ leaves first_state (cut cs).segments
     -- whatever words the memory has that a beacon is lent, it answers, plans and leaves the same
-    pub lent : (t : Table) (ws : List ℕ) → length ws ≡ planWords → AsLent t ws memory
+    pub lent : (t : Table) (ws : List ℕ) → length ws ≡ plan_words → AsLent t ws memory
     -- demand 3, after the first n rows of each segment
-    pub kept : All (λ g. (n : ℕ) → Demanded g.setting (calls_of (take n g.rows))) segmentsOf
+    pub kept : All (λ g. (n : ℕ) → Demanded g.setting (calls_of (take n g.rows))) segments_of

@@ -10,45 +10,45 @@ use Rattle.std.proofs.Math.Option.{none, some, some-injective}
 use Rattle.std.proofs.Math.Decide.{dec_le}
 use Rattle.std.proofs.lemmas.Bool.{lt-leb}
 use Rattle.std.proofs.Math.ListN.{get_or-eq_default}
-use Rattle.spec_lists.specs.Lists.{one-if, sum_of}
+use Rattle.spec_lists.specs.Lists.{one_if, sum_of}
 use Rattle.spec_lists.specs.All.{All, stop, and}
-use Rattle.base_lists.specs.Tests.{both-and, and-false}
+use Rattle.base_lists.specs.Tests.{both_and, and_false}
 use Rattle.base_lists.specs.All.{head, all_map}
-use Rattle.base_lists.specs.Sums.{sum-zero}
-use Rattle.spec_rules.specs.Slots.{JobName, Slot, Run, runsFrom, gives}
+use Rattle.base_lists.specs.Sums.{sum_zero}
+use Rattle.spec_rules.specs.Slots.{JobName, Slot, Run, runs_from, gives}
 use Rattle.spec_rules.specs.Reading.{rises}
-use Rattle.law_slots.specs.Choice.{wins, wins-most}
-use Rattle.law_slots.specs.Cuts.{nameIn, no-job, slot, Cuts, over, skip, cut, same-slot, cuts-from, cuts-all}
+use Rattle.law_slots.specs.Choice.{wins, wins_most}
+use Rattle.law_slots.specs.Cuts.{name_in, no_job, slot, Cuts, over, skip, cut, same_slot, cuts_from, cuts_all}
 
 -- how many records give slot x to a job that passes
 abbrev pub covers : (JobName → Bool) → ℕ → List Run → ℕ
-covers p x rs = sum_of (λ (r : Run). one-if (gives r x && p (nameIn r))) rs
+covers p x rs = sum_of (λ (r : Run). one_if (gives r x && p (name_in r))) rs
 
 -- a longest run of slots of one job: the slots just before it and just after it are not that job's
 pub record IsRun (cs : List Slot) (r : Run) : Type 0 where
   pub one : 1 ≤ r.length
-  pub all : (x : ℕ) → r.start ≤ x → x < r.start + r.length → get_or cs x none ≡ some (nameIn r)
-  pub before : (x : ℕ) → r.start ≡ suc x → get_or cs x none ≢ some (nameIn r)
-  pub after : get_or cs (r.start + r.length) none ≢ some (nameIn r)
+  pub all : (x : ℕ) → r.start ≤ x → x < r.start + r.length → get_or cs x none ≡ some (name_in r)
+  pub before : (x : ℕ) → r.start ≡ suc x → get_or cs x none ≢ some (name_in r)
+  pub after : get_or cs (r.start + r.length) none ≢ some (name_in r)
 
 -- ---- a record and a slot
-in-run : (r : Run) (x : ℕ) → r.start ≤ x → x < r.start + r.length → gives r x ≡ true
-in-run r x h k = both-and _ _ (le-leb r.start x h) (lt-ltb x _ (omega arith))
+in_run : (r : Run) (x : ℕ) → r.start ≤ x → x < r.start + r.length → gives r x ≡ true
+in_run r x h k = both_and _ _ (le-leb r.start x h) (lt-ltb x _ (omega arith))
 
-off-run : (r : Run) (x : ℕ) → (x < r.start) ⊎ (r.start + r.length ≤ x) → gives r x ≡ false
-off-run r x (inl h) = rw (lt-leb r.start x h)
-off-run r x (inr h) = ap (λ b. leb r.start x && b) (le-ltb x _ (omega arith)) ∙ and-false (leb r.start x)
+off_run : (r : Run) (x : ℕ) → (x < r.start) ⊎ (r.start + r.length ≤ x) → gives r x ≡ false
+off_run r x (inl h) = rw (lt-leb r.start x h)
+off_run r x (inr h) = ap (λ b. leb r.start x && b) (le-ltb x _ (omega arith)) ∙ and_false (leb r.start x)
 
-first_slot : {cs : List Slot} {r : Run} → IsRun cs r → get_or cs r.start none ≡ some (nameIn r)
+first_slot : {cs : List Slot} {r : Run} → IsRun cs r → get_or cs r.start none ≡ some (name_in r)
 first_slot {r = r} v = v.all r.start (le_refl r.start) (omega (arith, v.one))
 
 module _ (cs : List Slot) where
   -- ---- what each slot is given
   -- none of the runs gives a slot before the first
-  cover-none : (p : JobName → Bool) (x : ℕ) {s : ℕ} {rs : List Run} → Cuts cs s rs → x < s → covers p x rs ≡ 0
-  cover-none p x w h =
-      sum-zero (λ r. one-if (gives r x && p (nameIn r)))
-      (all_map (λ r e. ap (λ b. one-if (b && p (nameIn r))) (off-run r x (inl (omega arith)))) (cuts-from cs w))
+  cover_none : (p : JobName → Bool) (x : ℕ) {s : ℕ} {rs : List Run} → Cuts cs s rs → x < s → covers p x rs ≡ 0
+  cover_none p x w h =
+      sum_zero (λ r. one_if (gives r x && p (name_in r)))
+      (all_map (λ r e. ap (λ b. one_if (b && p (name_in r))) (off_run r x (inl (omega arith)))) (cuts_from cs w))
 
   -- By the runs: the slot is idle; or one of the first run's, and then of no later one; or it lies beyond.
   cover : (p : JobName → Bool) (x : ℕ) {s : ℕ} {rs : List Run} → Cuts cs s rs → s ≤ x → covers p x rs ≡ wins p (slot cs x)
@@ -56,15 +56,15 @@ module _ (cs : List Slot) where
   cover p x (skip {s = s} e w) l =
       elim (dec_le (suc s) x) [
         | yes q ↦ cover p x w q
-        | no q ↦ cover-none p x w (omega arith) ∙ ap (wins p) (sym (same-slot cs x s (omega arith) e))
+        | no q ↦ cover_none p x w (omega arith) ∙ ap (wins p) (sym (same_slot cs x s (omega arith) e))
       ]
   cover p x (cut {r = r} e m a z w) l =
       elim (dec_le (r.start + r.length) x) [
-        | yes q ↦ omega (arith, cover p x w q, ap (λ b. one-if (b && p (nameIn r))) (off-run r x (inr q)))
+        | yes q ↦ omega (arith, cover p x w q, ap (λ b. one_if (b && p (name_in r))) (off_run r x (inr q)))
         | no q ↦ omega (
           arith,
-          cover-none p x w (omega arith),
-          ap (λ b. one-if (b && p (nameIn r))) (in-run r x (omega arith) (omega arith)),
+          cover_none p x w (omega arith),
+          ap (λ b. one_if (b && p (name_in r))) (in_run r x (omega arith) (omega arith)),
           ap (wins p) (a x (omega arith) (omega arith)),
         )
       ]
@@ -74,35 +74,35 @@ module _ (cs : List Slot) where
   cuts_are : {s : ℕ} {rs : List Run} → Cuts cs s rs → ((x : ℕ) (k : JobName) → s ≡ suc x → slot cs x ≡ some k → slot cs s ≢ some k)
       → All (IsRun cs) rs
   cuts_are (over h) f = stop
-  cuts_are (skip {s = s} e w) f = cuts_are w (λ x k q h z. no-job e (same-slot cs s x (omega arith) h))
+  cuts_are (skip {s = s} e w) f = cuts_are w (λ x k q h z. no_job e (same_slot cs s x (omega arith) h))
   cuts_are (cut {s = s} {r = r} e m a z w) f =
       and (record { one = m; all = a; before = starts; after = z }) (cuts_are w ends)
     where
-      starts : (x : ℕ) → r.start ≡ suc x → slot cs x ≢ some (nameIn r)
-      starts x q h = f x (nameIn r) (omega arith) h (a s (omega arith) (omega arith))
+      starts : (x : ℕ) → r.start ≡ suc x → slot cs x ≢ some (name_in r)
+      starts x q h = f x (name_in r) (omega arith) h (a s (omega arith) (omega arith))
 
       ends : (x : ℕ) (k : JobName) → r.start + r.length ≡ suc x → slot cs x ≡ some k → slot cs (r.start + r.length) ≢ some k
       ends x k q h y = z (y ∙ sym h ∙ a x (omega arith) (omega arith))
 
   -- By the runs. A longest run starts beyond the first one, and is one of the others; or where the first one does, and is that one.
   -- It cannot start within it, as the slot before it would be the same job's; and it ends where the first one does.
-  cuts-hold : {s : ℕ} {rs : List Run} (r : Run) → IsRun cs r → s ≤ r.start → Cuts cs s rs → Memᴰ r rs
-  cuts-hold r v l (over h) = absurd (no-job (h r.start l) (first_slot v))
-  cuts-hold r v l (skip {s = s} e w) =
+  cuts_hold : {s : ℕ} {rs : List Run} (r : Run) → IsRun cs r → s ≤ r.start → Cuts cs s rs → Memᴰ r rs
+  cuts_hold r v l (over h) = absurd (no_job (h r.start l) (first_slot v))
+  cuts_hold r v l (skip {s = s} e w) =
       elim (dec_le (suc s) r.start) [
-        | yes y ↦ cuts-hold r v y w
-        | no y ↦ absurd (no-job e (same-slot cs s r.start (omega arith) (first_slot v)))
+        | yes y ↦ cuts_hold r v y w
+        | no y ↦ absurd (no_job e (same_slot cs s r.start (omega arith) (first_slot v)))
       ]
-  cuts-hold r v l (cut {r = q} e m a z w) =
+  cuts_hold r v l (cut {r = q} e m a z w) =
       elim (dec_le (q.start + q.length) r.start) [
-        | yes y ↦ Memᴰ.tail (cuts-hold r v y w)
+        | yes y ↦ Memᴰ.tail (cuts_hold r v y w)
         | no y ↦ Memᴰ.head (same (omega arith))
       ]
     where
       same : r.start < q.start + q.length → r ≡ q
       same y =
-          let n : nameIn r ≡ nameIn q =
-          some-injective (nameIn r) (nameIn q) (sym (first_slot v) ∙ a r.start (omega arith) y) in
+          let n : name_in r ≡ name_in q =
+          some-injective (name_in r) (name_in q) (sym (first_slot v) ∙ a r.start (omega arith) y) in
           let b : r.start ≡ q.start =
           elim (dec_le r.start q.start) [
             | yes h ↦ omega arith
@@ -122,42 +122,42 @@ module _ (cs : List Slot) where
           λ i. record { name = (n i).name; job = (n i).number; start = b i; length = f i }
 
   -- ---- by start
-  cuts-rise : {s : ℕ} {rs : List Run} → Cuts cs s rs → rises (map (λ r. r.start) rs) ≡ true
+  cuts_rise : {s : ℕ} {rs : List Run} → Cuts cs s rs → rises (map (λ r. r.start) rs) ≡ true
   unfolding rises
-  cuts-rise (over h) = refl
-  cuts-rise (skip e w) = cuts-rise w
-  cuts-rise (cut {r = r} {rs = rs} e m a z w) = go rs (cuts-from cs w) (cuts-rise w)
+  cuts_rise (over h) = refl
+  cuts_rise (skip e w) = cuts_rise w
+  cuts_rise (cut {r = r} {rs = rs} e m a z w) = go rs (cuts_from cs w) (cuts_rise w)
     where
       go : (qs : List Run) → All (λ q. r.start + r.length ≤ q.start) qs → rises (map (λ q. q.start) qs) ≡ true
           → rises (map (λ q. q.start) (r ∷ qs)) ≡ true
       go [] h k = refl
-      go (q ∷ qs) h k = both-and (ltb r.start q.start) (rises (map (λ x. x.start) (q ∷ qs)))
+      go (q ∷ qs) h k = both_and (ltb r.start q.start) (rises (map (λ x. x.start) (q ∷ qs)))
           (lt-ltb r.start q.start (omega (arith, head h))) k
 
 -- ---- the records of the slots cs
 -- how many records give slot x to a job that passes: one where the slot is such a job's, else none
-pub runs-cover : (p : JobName → Bool) (x : ℕ) (cs : List Slot) → covers p x (runsFrom 0 cs) ≡ wins p (get_or cs x none)
-runs-cover p x cs = cover cs p x (cuts-all cs) zero-le
+pub runs_cover : (p : JobName → Bool) (x : ℕ) (cs : List Slot) → covers p x (runs_from 0 cs) ≡ wins p (get_or cs x none)
+runs_cover p x cs = cover cs p x (cuts_all cs) zero-le
 
 -- no slot is given twice
-pub runs-once : (p : JobName → Bool) (x : ℕ) (cs : List Slot) → covers p x (runsFrom 0 cs) ≤ 1
-runs-once p x cs = omega (arith, runs-cover p x cs, wins-most p (get_or cs x none))
+pub runs_once : (p : JobName → Bool) (x : ℕ) (cs : List Slot) → covers p x (runs_from 0 cs) ≤ 1
+runs_once p x cs = omega (arith, runs_cover p x cs, wins_most p (get_or cs x none))
 
 -- every record is a longest run
-pub runs-are : (cs : List Slot) → All (IsRun cs) (runsFrom 0 cs)
-runs-are cs = cuts_are cs (cuts-all cs) (λ x k e. absurd (omega arith))
+pub runs_are : (cs : List Slot) → All (IsRun cs) (runs_from 0 cs)
+runs_are cs = cuts_are cs (cuts_all cs) (λ x k e. absurd (omega arith))
 
 -- every longest run is a record
-pub all_runs : (cs : List Slot) (r : Run) → IsRun cs r → Memᴰ r (runsFrom 0 cs)
-all_runs cs r v = cuts-hold cs r v zero-le (cuts-all cs)
+pub all_runs : (cs : List Slot) (r : Run) → IsRun cs r → Memᴰ r (runs_from 0 cs)
+all_runs cs r v = cuts_hold cs r v zero-le (cuts_all cs)
 
 -- by start
-pub runs-rise : (cs : List Slot) → rises (map (λ r. r.start) (runsFrom 0 cs)) ≡ true
-runs-rise cs = cuts-rise cs (cuts-all cs)
+pub runs_rise : (cs : List Slot) → rises (map (λ r. r.start) (runs_from 0 cs)) ≡ true
+runs_rise cs = cuts_rise cs (cuts_all cs)
 
 -- no record reaches beyond the slots
-pub runs-end : (cs : List Slot) → All (λ r. r.start + r.length ≤ length cs) (runsFrom 0 cs)
-runs-end cs = all_map ends (runs-are cs)
+pub runs_end : (cs : List Slot) → All (λ r. r.start + r.length ≤ length cs) (runs_from 0 cs)
+runs_end cs = all_map ends (runs_are cs)
   where
     ends : (r : Run) → IsRun cs r → r.start + r.length ≤ length cs
     ends r v =
@@ -165,10 +165,10 @@ runs-end cs = all_map ends (runs-are cs)
         elim (dec_le (r.start + r.length) (length cs)) [
           | yes h ↦ h
           | no h ↦ absurd
-              (no-job (get_or-eq_default cs none (omega arith)) (v.all (r.start + r.length - 1) (omega arith) (omega arith)))
+              (no_job (get_or-eq_default cs none (omega arith)) (v.all (r.start + r.length - 1) (omega arith) (omega arith)))
         ]
 
 -- what holds of the name in every slot holds of the name in every record
-pub runs-named : (P : JobName → Type 0) (cs : List Slot) → ((x : ℕ) (k : JobName) → get_or cs x none ≡ some k → P k)
-    → All (λ r. P (nameIn r)) (runsFrom 0 cs)
-runs-named P cs h = all_map (λ r v. h r.start (nameIn r) (first_slot v)) (runs-are cs)
+pub runs_named : (P : JobName → Type 0) (cs : List Slot) → ((x : ℕ) (k : JobName) → get_or cs x none ≡ some k → P k)
+    → All (λ r. P (name_in r)) (runs_from 0 cs)
+runs_named P cs h = all_map (λ r v. h r.start (name_in r) (first_slot v)) (runs_are cs)

@@ -6,28 +6,28 @@ use Rattle.std.proofs.Common.{◌∙◌, zero-le, arith, eq-eqb, ne_eqb}
 use Rattle.std.proofs.Math.Logic.{inl, inr}
 use Rattle.std.proofs.Math.Nat.{le_refl}
 use Rattle.std.proofs.lemmas.Bool.{eqb-false}
-use Rattle.spec_model.specs.Answers.{fieldsAnswer, requestOf}
-use Rattle.spec_model.specs.Entries.{is_held, isKind, isPiece, entry_of}
+use Rattle.spec_model.specs.Answers.{fields_answer, request_of}
+use Rattle.spec_model.specs.Entries.{is_held, is_kind, is_piece, entry_of}
 use Rattle.spec_model.specs.declared.Entry.{Entry}
 use Rattle.spec_model.specs.declared.Request.{Request}
-use Rattle.spec_model.specs.Names.{nameInRange}
+use Rattle.spec_model.specs.Names.{name_in_range}
 use Rattle.spec_model.specs.declared.Frame.{Frame}
-use Rattle.spec_model.specs.Frames.{slotsIn, part_of}
+use Rattle.spec_model.specs.Frames.{slots_in, part_of}
 use Rattle.spec_rules.specs.WellFormed.{Held, Running}
-use Rattle.law_model.specs.Names.{in-range-some}
-use Rattle.law_steps.specs.Fields.{FractionFields, Fields, fraction, whole, transfer, fields-of}
+use Rattle.law_model.specs.Names.{in_range_some}
+use Rattle.law_steps.specs.Fields.{FractionFields, Fields, fraction, whole, transfer, fields_of_lem}
 
 -- kind 1: it has a life, and no period of intervals
 pub record Fraction (F : Frame) (e : Entry) : Type 0 where
   pub kind : e.kind ≡ 1
-  pub name : nameInRange e.name ≡ true
+  pub name : name_in_range e.name ≡ true
   pub alive : 1 ≤ e.life_left.0
-  pub life-left : e.life_left.0 ≤ e.life.0
-  pub life-most : e.life.0 ≤ 65535
-  pub parts-least : 2 ≤ e.parts
-  pub parts-most : e.parts ≤ 16
-  pub whole : part_of F e.parts * e.parts ≡ slotsIn F
-  pub min-least : 1 ≤ e.min.0
+  pub life_left : e.life_left.0 ≤ e.life.0
+  pub life_most : e.life.0 ≤ 65535
+  pub parts_least : 2 ≤ e.parts
+  pub parts_most : e.parts ≤ 16
+  pub whole : part_of F e.parts * e.parts ≡ slots_in F
+  pub min_least : 1 ≤ e.min.0
   pub least : e.min.0 ≤ e.max.0
   pub most : e.max.0 ≤ part_of F e.parts
   pub period : e.period.0 ≡ 0
@@ -38,41 +38,41 @@ pub record Fraction (F : Frame) (e : Entry) : Type 0 where
 -- kinds 2 and 3: the period that runs, those that follow it, and what is owed and was given in it
 pub record Piece (F : Frame) (e : Entry) : Type 0 where
   pub kind : (e.kind ≡ 2) ⊎ (e.kind ≡ 3)
-  pub name : nameInRange e.name ≡ true
+  pub name : name_in_range e.name ≡ true
   pub alive : 1 ≤ e.life_left.0
-  pub life-left : e.life_left.0 ≤ e.life.0
-  pub life-most : e.life.0 ≤ 65535
+  pub life_left : e.life_left.0 ≤ e.life.0
+  pub life_most : e.life.0 ≤ 65535
   pub parts : e.parts ≡ 0
-  pub period-least : 1 ≤ e.period.0
-  pub period-most : e.period.0 ≤ 65535
+  pub period_least : 1 ≤ e.period.0
+  pub period_most : e.period.0 ≤ 65535
   pub ahead : 1 ≤ e.left.0
   pub short : e.left.0 ≤ e.period.0
   pub following : ℕ
   pub lives : e.life_left.0 ≡ e.left.0 + following * e.period.0
   pub once : e.kind ≡ 3 → following ≡ 0
-  pub life-once : e.kind ≡ 3 → e.life.0 ≡ e.period.0
+  pub life_once : e.kind ≡ 3 → e.life.0 ≡ e.period.0
   pub owed : e.owed.0 ≡ e.min.0 - e.given.0
-  pub min-least : 1 ≤ e.min.0
-  pub period-whole : e.kind ≡ 2 → e.period.0 ≤ 255
+  pub min_least : 1 ≤ e.min.0
+  pub period_whole : e.kind ≡ 2 → e.period.0 ≤ 255
   pub least : e.kind ≡ 2 → e.min.0 ≤ e.max.0
-  pub most : e.kind ≡ 2 → e.max.0 ≤ e.period.0 * slotsIn F
-  pub given-whole : e.kind ≡ 2 → e.given.0 ≤ e.max.0
-  pub given-transfer : e.kind ≡ 3 → e.given.0 ≤ e.min.0
+  pub most : e.kind ≡ 2 → e.max.0 ≤ e.period.0 * slots_in F
+  pub given_whole : e.kind ≡ 2 → e.given.0 ≤ e.max.0
+  pub given_transfer : e.kind ≡ 3 → e.given.0 ≤ e.min.0
 
 -- ---- the tests of kind
-pub piece-of : (e : Entry) → (e.kind ≡ 2) ⊎ (e.kind ≡ 3) → isPiece e ≡ true
-piece-of e (inl k) = rw k
-piece-of e (inr k) = rw k
+pub piece_of_lem : (e : Entry) → (e.kind ≡ 2) ⊎ (e.kind ≡ 3) → is_piece e ≡ true
+piece_of_lem e (inl k) = rw k
+piece_of_lem e (inr k) = rw k
 
-pub not-fraction : (e : Entry) → (e.kind ≡ 2) ⊎ (e.kind ≡ 3) → isKind 1 e ≡ false
-not-fraction e (inl k) = rw k
-not-fraction e (inr k) = rw k
+pub not_fraction : (e : Entry) → (e.kind ≡ 2) ⊎ (e.kind ≡ 3) → is_kind 1 e ≡ false
+not_fraction e (inl k) = rw k
+not_fraction e (inr k) = rw k
 
-pub fraction-not : (e : Entry) → e.kind ≡ 1 → isPiece e ≡ false
-fraction-not e k = rw k
+pub fraction_not : (e : Entry) → e.kind ≡ 1 → is_piece e ≡ false
+fraction_not e k = rw k
 
-pub held-is : {F : Frame} {e : Entry} → Held F e → is_held e ≡ true
-held-is {e = e} h = ap not (in-range-some e.name h.name)
+pub held_is : {F : Frame} {e : Entry} → Held F e → is_held e ≡ true
+held_is {e = e} h = ap not (in_range_some e.name h.name)
 
 -- ---- a held entry, by kind
 -- in a life of one period no period follows the one that runs
@@ -81,21 +81,21 @@ only zero p l h k = refl
 only (suc n) p l h k = omega arith
 
 module _ {F : Frame} {e : Entry} (h : Held F e) where
-  held-fraction : FractionFields F (requestOf e) → Fraction F e
-  unfolding requestOf
-  held-fraction f =
+  held_fraction : FractionFields F (request_of e) → Fraction F e
+  unfolding request_of
+  held_fraction f =
       let g = rw (eq-eqb e.kind 1 f.kind) at f in
       let z = h.fraction f.kind in
       record {
         kind = f.kind;
         name = h.name;
         alive = h.alive;
-        life-left = h.life;
-        life-most = omega arith;
-        parts-least = omega arith;
-        parts-most = omega arith;
+        life_left = h.life;
+        life_most = omega arith;
+        parts_least = omega arith;
+        parts_most = omega arith;
         whole = g.whole;
-        min-least = omega arith;
+        min_least = omega arith;
         least = omega arith;
         most = omega arith;
         period = z.0;
@@ -106,63 +106,63 @@ module _ {F : Frame} {e : Entry} (h : Held F e) where
 
   -- From the ranges that both kinds have and what is special to each: the rest is what the entry keeps while it runs. A transfer
   -- has no period to follow, since its life is one period and is not over.
-  held-piece : (e.kind ≡ 2) ⊎ (e.kind ≡ 3) → isKind 1 e ≡ false
+  held_piece : (e.kind ≡ 2) ⊎ (e.kind ≡ 3) → is_kind 1 e ≡ false
       → (1 ≤ e.period.0) × (e.period.0 ≤ 65535) × (1 ≤ e.min.0) × (e.life.0 ≤ 65535)
-      → (e.kind ≡ 2 → (e.period.0 ≤ 255) × (e.min.0 ≤ e.max.0) × (e.max.0 ≤ e.period.0 * slotsIn F))
+      → (e.kind ≡ 2 → (e.period.0 ≤ 255) × (e.min.0 ≤ e.max.0) × (e.max.0 ≤ e.period.0 * slots_in F))
       → (e.kind ≡ 3 → e.life.0 ≡ e.period.0) → Piece F e
-  held-piece k n f two three =
+  held_piece k n f two three =
       let r = h.running (eqb-false e.kind 1 n) in
       record {
         kind = k;
         name = h.name;
         alive = h.alive;
-        life-left = h.life;
-        life-most = f.3;
+        life_left = h.life;
+        life_most = f.3;
         parts = r.parts;
-        period-least = f.0;
-        period-most = f.1;
+        period_least = f.0;
+        period_most = f.1;
         ahead = r.ahead;
         short = r.short;
         following = r.following;
         lives = r.lives;
         once = λ z. only r.following e.period.0 e.left.0 (omega (arith, three z)) r.ahead;
-        life-once = three;
+        life_once = three;
         owed = r.owed;
-        min-least = f.2;
-        period-whole = λ z. (two z).0;
+        min_least = f.2;
+        period_whole = λ z. (two z).0;
         least = λ z. (two z).1;
         most = λ z. (two z).2;
-        given-whole = r.whole;
-        given-transfer = r.transfer;
+        given_whole = r.whole;
+        given_transfer = r.transfer;
       }
 
   -- by the checks that its request passed
-  pub held-kinds : Fraction F e ⊎ Piece F e
-  unfolding requestOf
-  held-kinds = go (fields-of F (requestOf e) h.fields)
+  pub held_kinds : Fraction F e ⊎ Piece F e
+  unfolding request_of
+  held_kinds = go (fields_of_lem F (request_of e) h.fields)
     where
-      go : Fields F (requestOf e) → Fraction F e ⊎ Piece F e
-      go (fraction f) = inl (held-fraction f)
+      go : Fields F (request_of e) → Fraction F e ⊎ Piece F e
+      go (fraction f) = inl (held_fraction f)
       go (whole f) =
-          let n = not-fraction e (inl f.kind) in
+          let n = not_fraction e (inl f.kind) in
           let g = rw n at f in
-          inr (held-piece (inl g.kind) n (omega arith) (omega arith) (omega arith))
+          inr (held_piece (inl g.kind) n (omega arith) (omega arith) (omega arith))
       go (transfer f) =
-          let n = not-fraction e (inr f.kind) in
+          let n = not_fraction e (inr f.kind) in
           let g = rw n at f in
-          inr (held-piece (inr g.kind) n (omega arith) (omega arith) (omega arith))
+          inr (held_piece (inr g.kind) n (omega arith) (omega arith) (omega arith))
 
-pub piece-other : {F : Frame} {e : Entry} → Piece F e → e.kind ≢ 1
-piece-other {e = e} p = eqb-false e.kind 1 (not-fraction e p.kind)
+pub piece_other : {F : Frame} {e : Entry} → Piece F e → e.kind ≢ 1
+piece_other {e = e} p = eqb-false e.kind 1 (not_fraction e p.kind)
 
-pub other-piece : {F : Frame} {e : Entry} → Held F e → e.kind ≢ 1 → Piece F e
-other-piece h n = elim (held-kinds h) [ inl f ↦ absurd (n f.kind) | inr p ↦ p ]
+pub other_piece : {F : Frame} {e : Entry} → Held F e → e.kind ≢ 1 → Piece F e
+other_piece h n = elim (held_kinds h) [ inl f ↦ absurd (n f.kind) | inr p ↦ p ]
 
 -- ---- the entry of a request
 -- it holds the request, whatever the request is
-pub request-back : (q : Request) → requestOf (entry_of q) ≡ q
-unfolding requestOf entry_of
-request-back q =
+pub request_back : (q : Request) → request_of (entry_of q) ≡ q
+unfolding request_of entry_of
+request_back q =
     ap (λ p. record { name = q.name; kind = q.kind; period = p; min = q.min; max = q.max; life = q.life })
     (either_way (eqb q.kind 1))
   where
@@ -172,20 +172,20 @@ request-back q =
 
 -- where the request passes the checks, the entry is held
 module _ (F : Frame) (q : Request) where
-  life-some : Fields F q → 1 ≤ q.life
-  life-some (fraction f) = f.life-least
-  life-some (whole f) = f.life-least
-  life-some (transfer f) = omega arith
+  life_some : Fields F q → 1 ≤ q.life
+  life_some (fraction f) = f.life_least
+  life_some (whole f) = f.life_least
+  life_some (transfer f) = omega arith
 
   -- kinds 2 and 3: the periods that follow the first
   periods : q.kind ≢ 1 → Fields F q → (n : ℕ) × (1 ≤ q.period) × (q.life ≡ q.period + n * q.period)
   periods n (fraction f) = absurd (n f.kind)
-  periods n (whole f) = (f.count, f.period-least, omega arith)
-  periods n (transfer f) = (0, f.period-least, omega arith)
+  periods n (whole f) = (f.count, f.period_least, omega arith)
+  periods n (transfer f) = (0, f.period_least, omega arith)
 
-  entry-running : q.kind ≢ 1 → Fields F q → Running (entry_of q)
+  entry_running : q.kind ≢ 1 → Fields F q → Running (entry_of q)
   unfolding entry_of
-  entry-running n f =
+  entry_running n f =
       let p = periods n f in
       rw (ne_eqb q.kind 1 n)
       (record {
@@ -199,15 +199,15 @@ module _ (F : Frame) (q : Request) where
         transfer = λ k. zero-le;
       })
 
-  pub entry-held : nameInRange q.name ≡ true → fieldsAnswer F q ≡ 0 → Held F (entry_of q)
+  pub entry_held : name_in_range q.name ≡ true → fields_answer F q ≡ 0 → Held F (entry_of q)
   unfolding entry_of
-  entry-held s h =
-      let f = fields-of F q h in
+  entry_held s h =
+      let f = fields_of_lem F q h in
       record {
         name = s;
-        fields = ap (fieldsAnswer F) (request-back q) ∙ h;
-        alive = life-some f;
+        fields = ap (fields_answer F) (request_back q) ∙ h;
+        alive = life_some f;
         life = le_refl q.life;
         fraction = λ k. rw (eq-eqb q.kind 1 k) (refl, refl, refl, refl);
-        running = λ n. entry-running n f;
+        running = λ n. entry_running n f;
       }

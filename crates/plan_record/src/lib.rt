@@ -1,11 +1,11 @@
 // A record of a plan, as words of lent memory: one function writes its words, one reads them back. In code only these two know which word is
 // which. And the pen, which writes runs as records: slots of one job, one after the other, are one. Document 01, "One beacon", step E.
 ghost use Rattle.std.specs.Prelude.{◌≡◌, [], ◌∷◌, ◌+◌, ◌*◌, ◌≤◌, length, drop};
-ghost use Rattle.spec_rules.specs.Records.{recordWords, recordAt};
-ghost use Rattle.law_model.specs.Frames.{mostSlots};
+ghost use Rattle.spec_rules.specs.Records.{record_words, record_at};
+ghost use Rattle.law_model.specs.Frames.{most_slots};
 ghost use Rattle.plan_record.specs.Recorded.{run_of, recorded};
 ghost use Rattle.plan_record.specs.Starts.{start_at};
-ghost use Rattle.plan_record.specs.Pens.{blank, named, openRun, grows, closed, extended};
+ghost use Rattle.plan_record.specs.Pens.{blank, named, open_run, grows, closed, extended};
 
 use spec_model::{Name, Slots};
 
@@ -36,7 +36,7 @@ pub struct Pen {
 
 // The n-th record of a plan; every other word stays as it was.
 pub fn write_record(plan: &mut [u32], n: usize, r: Record)
-    requires { recordWords * (n + 1) ≤ length plan.old }
+    requires { record_words * (n + 1) ≤ length plan.old }
     ensures { plan.new ≡ recorded n (run_of r ∷ []) plan.old }
 {
     let at = spec_model::RECORD_WORDS * n;
@@ -47,8 +47,8 @@ pub fn write_record(plan: &mut [u32], n: usize, r: Record)
 }
 
 pub fn read_record(plan: &[u32], n: usize) -> Record
-    requires { recordWords * (n + 1) ≤ length plan.now }
-    ensures { run_of result ≡ recordAt (drop (recordWords * n) plan.now) }
+    requires { record_words * (n + 1) ≤ length plan.now }
+    ensures { run_of result ≡ record_at (drop (record_words * n) plan.now) }
 {
     let at = spec_model::RECORD_WORDS * n;
     let stream = plan[at + STREAM_WORD];
@@ -65,7 +65,7 @@ pub fn read_record(plan: &[u32], n: usize) -> Record
 
 // Where the n-th record starts.
 pub fn start_of(plan: &[u32], n: usize) -> Slots
-    requires { recordWords * (n + 1) ≤ length plan.now }
+    requires { record_words * (n + 1) ≤ length plan.now }
     ensures { result.0 ≡ start_at plan.now n }
 {
     let r = read_record(plan, n);
@@ -74,9 +74,9 @@ pub fn start_of(plan: &[u32], n: usize) -> Slots
 
 // The run that may still grow is written; how many records there are then.
 pub fn put_run(pen: Pen, plan: &mut [u32]) -> usize
-    requires { recordWords * (pen.count + 1) ≤ length plan.old }
-    ensures { (result ≡ pen.count + length (openRun pen))
-        × (plan.new ≡ recorded pen.count (openRun pen) plan.old) }
+    requires { record_words * (pen.count + 1) ≤ length plan.old }
+    ensures { (result ≡ pen.count + length (open_run pen))
+        × (plan.new ≡ recorded pen.count (open_run pen) plan.old) }
 {
     let count = pen.count;
     let run = pen.run;
@@ -103,8 +103,8 @@ fn run_grows(run: Record, name: Name, job: u32, t: Slots) -> bool
 
 // n slots from t on go to a job: the run grows, or it is written and another begins.
 pub fn extend_run(pen: Pen, plan: &mut [u32], name: Name, job: u32, t: Slots, n: Slots) -> Pen
-    requires count_in_bounds { (recordWords * (pen.count + 1) ≤ length plan.old) × (pen.run.start.0 + pen.run.length.0 ≤ t.0) }
-    requires n_bound { t.0 + n.0 ≤ mostSlots }
+    requires count_in_bounds { (record_words * (pen.count + 1) ≤ length plan.old) × (pen.run.start.0 + pen.run.length.0 ≤ t.0) }
+    requires n_bound { t.0 + n.0 ≤ most_slots }
     ensures { (result ≡ extended pen (named name job) t.0 n.0)
         × (plan.new ≡ recorded pen.count (closed pen (named name job) t.0) plan.old) }
 {

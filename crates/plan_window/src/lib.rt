@@ -1,8 +1,8 @@
 // A window over a plan: the records that start from one slot on to just before another, as a part of the plan lent. Its answer goes to
 // a lent word, the only memory that it changes. Document 01, "Reading, lending, printing". Nothing is asked of the plan or the count.
 ghost use Rattle.std.specs.Prelude.{◌≡◌, ◌+◌, ◌*◌, ◌-◌, ◌≤◌, length, take, drop};
-ghost use Rattle.spec_rules.specs.Records.{recordWords};
-ghost use Rattle.spec_rules.specs.Reading.{startsOf, rises, before, windowAnswer, windowPart};
+ghost use Rattle.spec_rules.specs.Records.{record_words};
+ghost use Rattle.spec_rules.specs.Reading.{starts_of, rises, before, window_answer, window_part};
 ghost use Rattle.plan_window.specs.Laws.{Passed};
 ghost use Rattle.plan_window.specs.Ends.{bounds_of};
 
@@ -10,8 +10,8 @@ use spec_model::Slots;
 
 // Whether each record starts after the one before it.
 fn starts_rise(plan: &[u32], count: usize) -> bool
-    requires { recordWords * count ≤ length plan.now }
-    ensures { result ≡ rises (startsOf count plan.now) }
+    requires { record_words * count ≤ length plan.now }
+    ensures { result ≡ rises (starts_of count plan.now) }
 {
     let mut i = 0;
     while i + 1 < count {
@@ -27,8 +27,8 @@ fn starts_rise(plan: &[u32], count: usize) -> bool
 
 // The number of the first record that starts at slot or later; the count where there is none. It is looked for behind those passed.
 fn first_from(plan: &[u32], count: usize, passed: usize, slot: Slots) -> usize
-    requires { (recordWords * count ≤ length plan.now) × Passed count plan.now passed slot.0 }
-    ensures { result ≡ before slot.0 (startsOf count plan.now) }
+    requires { (record_words * count ≤ length plan.now) × Passed count plan.now passed slot.0 }
+    ensures { result ≡ before slot.0 (starts_of count plan.now) }
 {
     let mut i = passed;
     while i < count {
@@ -43,7 +43,7 @@ fn first_from(plan: &[u32], count: usize, passed: usize, slot: Slots) -> usize
 
 // The records that fit the plan are counted, since their words may be more than a number holds.
 fn answer_of(plan: &[u32], count: usize, from: Slots, until: Slots) -> u32
-    ensures { result ≡ windowAnswer plan.now count from.0 until.0 }
+    ensures { result ≡ window_answer plan.now count from.0 until.0 }
 {
     if plan.len() / spec_model::RECORD_WORDS < count {
         return call_answers::TOO_MANY_RECORDS;
@@ -84,8 +84,8 @@ pub fn bounds_of(plan: &[u32], count: usize, from: Slots, until: Slots) -> Bound
 
 // The records from first to just before end.
 fn records<'a>(plan: &'a [u32], first: usize, end: usize) -> &'a [u32]
-    requires { (first ≤ end) × (recordWords * end ≤ length plan.now) }
-    ensures { result.now ≡ take (recordWords * end - recordWords * first) (drop (recordWords * first) plan.now) }
+    requires { (first ≤ end) × (record_words * end ≤ length plan.now) }
+    ensures { result.now ≡ take (record_words * end - record_words * first) (drop (record_words * first) plan.now) }
 {
     &plan[spec_model::RECORD_WORDS * first..spec_model::RECORD_WORDS * end]
 }
@@ -98,8 +98,8 @@ pub fn window<'a>(
     until: Slots,
     answer: &mut u32,
 ) -> &'a [u32]
-    ensures { (result.now ≡ windowPart plan.now count from.0 until.0)
-        × (answer.new ≡ windowAnswer plan.now count from.0 until.0) }
+    ensures { (result.now ≡ window_part plan.now count from.0 until.0)
+        × (answer.new ≡ window_answer plan.now count from.0 until.0) }
 {
     let b = bounds_of(plan, count, from, until);
     *answer = b.answer;

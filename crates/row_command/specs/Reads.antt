@@ -2,32 +2,32 @@
 use Rattle.std.specs.Prelude.{ℕ, cond, List}
 use Rattle.spec_lists.specs.Lists.{same_list}
 use Rattle.spec_text.specs.declared.Field.{Field}
-use Rattle.spec_shelf.specs.Commands.{openVerb, offerVerb, withdrawVerb, beaconVerb}
-use Rattle.spec_shelf.specs.Commands.{openForm, offerForm, withdrawForm, beaconForm, settingFrom, nameFrom, requestFrom}
+use Rattle.spec_shelf.specs.Commands.{open_verb, offer_verb, withdraw_verb, beacon_verb}
+use Rattle.spec_shelf.specs.Commands.{open_form, offer_form, withdraw_form, beacon_form, setting_from, name_from, request_from}
 use Rattle.spec_shelf.specs.declared.Command.{Command}
 use Rattle.spec_shelf.specs.declared.Command.TheVariants.{Open, Offer, Withdraw, Beacon, OtherForm}
 use Rattle.row_command.specs.declared.Verb.{Verb}
 use Rattle.row_command.specs.declared.Verb.TheVariants as verb
 
-unfoldable pub verbOf : List ℕ → Verb
-verbOf v =
-    cond (same_list v openVerb) verb.Open
-    (cond (same_list v offerVerb) verb.Offer
-    (cond (same_list v withdrawVerb) verb.Withdraw
-    (cond (same_list v beaconVerb) verb.Beacon verb.Unknown)))
+unfoldable pub verb_of : List ℕ → Verb
+verb_of v =
+    cond (same_list v open_verb) verb.Open
+    (cond (same_list v offer_verb) verb.Offer
+    (cond (same_list v withdraw_verb) verb.Withdraw
+    (cond (same_list v beacon_verb) verb.Beacon verb.Unknown)))
 
 -- what it asks of the fields after it; of an unknown verb nothing is asked for
 abbrev pub form_of : Verb → List Field
-form_of verb.Open = openForm
-form_of verb.Offer = offerForm
-form_of verb.Withdraw = withdrawForm
-form_of verb.Beacon = beaconForm
-form_of verb.Unknown = beaconForm
+form_of verb.Open = open_form
+form_of verb.Offer = offer_form
+form_of verb.Withdraw = withdraw_form
+form_of verb.Beacon = beacon_form
+form_of verb.Unknown = beacon_form
 
 -- the verb with its numbers
 abbrev pub asked : Verb → List ℕ → Command
-asked verb.Open ns = Open (settingFrom ns)
-asked verb.Offer ns = Offer (requestFrom ns)
-asked verb.Withdraw ns = Withdraw (nameFrom ns)
+asked verb.Open ns = Open (setting_from ns)
+asked verb.Offer ns = Offer (request_from ns)
+asked verb.Withdraw ns = Withdraw (name_from ns)
 asked verb.Beacon ns = Beacon
 asked verb.Unknown ns = OtherForm

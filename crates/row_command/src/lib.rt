@@ -1,7 +1,7 @@
 // What a row asks for. Document 01, "Reading, lending, printing".
 ghost use Rattle.std.specs.Prelude.{◌≡◌};
-ghost use Rattle.spec_shelf.specs.Commands.{settingFrom, nameFrom, requestFrom, commandOf};
-ghost use Rattle.row_command.specs.Reads.{verbOf, form_of, asked};
+ghost use Rattle.spec_shelf.specs.Commands.{setting_from, name_from, request_from, command_of};
+ghost use Rattle.row_command.specs.Reads.{verb_of, form_of, asked};
 
 use spec_model::{Name, Request, Setting};
 use spec_shelf::Command;
@@ -40,7 +40,7 @@ const WITHDRAW_FORM: [Field; FIELDS] = [
 const BEACON_FORM: [Field; FIELDS] = [Field::Empty; FIELDS];
 
 fn verb_of(field: &[u8]) -> Verb
-    ensures { result ≡ verbOf field.now }
+    ensures { result ≡ verb_of field.now }
 {
     if row_fields::matches(field, b"open") {
         return Verb::Open;
@@ -72,7 +72,7 @@ fn form_of(verb: Verb) -> [Field; FIELDS]
 
 // What the numbers of a row say, in its verb's terms.
 fn setting_from(values: [u32; FIELDS]) -> Setting
-    ensures { result ≡ settingFrom values }
+    ensures { result ≡ setting_from values }
 {
     let units = values[0];
     let header = values[1];
@@ -80,13 +80,13 @@ fn setting_from(values: [u32; FIELDS]) -> Setting
 }
 
 fn name_from(values: [u32; FIELDS]) -> Name
-    ensures { result ≡ nameFrom values }
+    ensures { result ≡ name_from values }
 {
     Name { stream: values[0] }
 }
 
 fn request_from(values: [u32; FIELDS]) -> Request
-    ensures { result ≡ requestFrom values }
+    ensures { result ≡ request_from values }
 {
     let name = name_from(values);
     let kind = values[1];
@@ -119,7 +119,7 @@ fn asked_for(verb: Verb, values: [u32; FIELDS]) -> Command
 
 // A row of another form has more than 64 bytes, another verb, not seven fields, or a field that is not as its verb needs it.
 pub fn command_of(row: &[u8]) -> Command
-    ensures { result ≡ commandOf row.now }
+    ensures { result ≡ command_of row.now }
 {
     if ROW_MOST < row.len() {
         return Command::OtherForm;

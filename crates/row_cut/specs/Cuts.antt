@@ -4,23 +4,23 @@ use Rattle.std.specs.Prelude.{◌≡◌, refl, true, false, List, [], ◌∷◌,
 use Rattle.std.proofs.Common.{◌∙◌, ⊎_elim, arith}
 use Rattle.base_lists.specs.Tests.{either, clash}
 use Rattle.row_cut.specs.declared.Reader.{Reader}
-use Rattle.row_cut.specs.Lines.{at_start, endsRow, afterByte, cutFrom, linesIn, readerAfter}
+use Rattle.row_cut.specs.Lines.{at_start, ends_row, after_byte, cut_from, lines_in, reader_after}
 
 -- of k bytes that the cut took after the first n: they hold one row, and a reader starts anew after them
 pub record Ended (n : ℕ) (r : Reader) (bs : List ℕ) : Type 0 where
   pub k : ℕ
-  pub taken : (cutFrom n r bs).taken ≡ n + k
+  pub taken : (cut_from n r bs).taken ≡ n + k
   pub some : 0 < k
   pub inside : k ≤ length bs
-  pub only : linesIn r (take k bs) ≡ (cutFrom n r bs).reader.line ∷ []
-  pub anew : readerAfter r (take k bs) ≡ at_start
+  pub only : lines_in r (take k bs) ≡ (cut_from n r bs).reader.line ∷ []
+  pub anew : reader_after r (take k bs) ≡ at_start
 
-pub row-ended : (n : ℕ) (r : Reader) (bs : List ℕ) → (cutFrom n r bs).ended ≡ true → Ended n r bs
-unfolding cutFrom linesIn readerAfter
-row-ended n r [] e = absurd (clash false e refl)
-row-ended n r (b ∷ bs) e = ⊎_elim here (on (row-ended (suc n) (afterByte r b) bs)) (either (endsRow r b))
+pub row_ended : (n : ℕ) (r : Reader) (bs : List ℕ) → (cut_from n r bs).ended ≡ true → Ended n r bs
+unfolding cut_from lines_in reader_after
+row_ended n r [] e = absurd (clash false e refl)
+row_ended n r (b ∷ bs) e = ⊎_elim here (on (row_ended (suc n) (after_byte r b) bs)) (either (ends_row r b))
   where
-    here : endsRow r b ≡ true → Ended n r (b ∷ bs)
+    here : ends_row r b ≡ true → Ended n r (b ∷ bs)
     here t = record {
       k = 1;
       taken = rw t (omega arith);
@@ -30,7 +30,7 @@ row-ended n r (b ∷ bs) e = ⊎_elim here (on (row-ended (suc n) (afterByte r b
       anew = rw t refl;
     }
 
-    on : ((cutFrom (suc n) (afterByte r b) bs).ended ≡ true → Ended (suc n) (afterByte r b) bs) → endsRow r b ≡ false → Ended n r (b ∷ bs)
+    on : ((cut_from (suc n) (after_byte r b) bs).ended ≡ true → Ended (suc n) (after_byte r b) bs) → ends_row r b ≡ false → Ended n r (b ∷ bs)
     on later t =
         let m = later (rw t at e) in
         record {
@@ -44,15 +44,15 @@ row-ended n r (b ∷ bs) e = ⊎_elim here (on (row-ended (suc n) (afterByte r b
 
 -- a chunk through which the row goes on
 abbrev Open : ℕ → Reader → List ℕ → Type 0
-Open n r bs = ((cutFrom n r bs).taken ≡ n + length bs) × ((linesIn r bs ≡ []) × (readerAfter r bs ≡ (cutFrom n r bs).reader))
+Open n r bs = ((cut_from n r bs).taken ≡ n + length bs) × ((lines_in r bs ≡ []) × (reader_after r bs ≡ (cut_from n r bs).reader))
 
-pub row_open : (n : ℕ) (r : Reader) (bs : List ℕ) → (cutFrom n r bs).ended ≡ false → Open n r bs
-unfolding cutFrom linesIn readerAfter
+pub row_open : (n : ℕ) (r : Reader) (bs : List ℕ) → (cut_from n r bs).ended ≡ false → Open n r bs
+unfolding cut_from lines_in reader_after
 row_open n r [] e = (omega arith, (refl, refl))
-row_open n r (b ∷ bs) e = ⊎_elim here (on (row_open (suc n) (afterByte r b) bs)) (either (endsRow r b))
+row_open n r (b ∷ bs) e = ⊎_elim here (on (row_open (suc n) (after_byte r b) bs)) (either (ends_row r b))
   where
-    here : endsRow r b ≡ true → Open n r (b ∷ bs)
-    here t = absurd (clash (cutFrom n r (b ∷ bs)).ended (rw t refl) e)
+    here : ends_row r b ≡ true → Open n r (b ∷ bs)
+    here t = absurd (clash (cut_from n r (b ∷ bs)).ended (rw t refl) e)
 
-    on : ((cutFrom (suc n) (afterByte r b) bs).ended ≡ false → Open (suc n) (afterByte r b) bs) → endsRow r b ≡ false → Open n r (b ∷ bs)
+    on : ((cut_from (suc n) (after_byte r b) bs).ended ≡ false → Open (suc n) (after_byte r b) bs) → ends_row r b ≡ false → Open n r (b ∷ bs)
     on later t = let m = later (rw t at e) in rw t (m.0 ∙ omega arith, m.1)

@@ -4,75 +4,75 @@ use Rattle.std.specs.Prelude.{ℕ, suc, Bool, true, false, cond, ◌&&◌, List,
 use Rattle.row_cut.specs.declared.Line.{Line}
 use Rattle.row_cut.specs.declared.Reader.{Reader}
 use Rattle.row_cut.specs.declared.Cut.{Cut}
-use Rattle.spec_text.specs.Rows.{lf, cr, rowMost}
+use Rattle.spec_text.specs.Rows.{lf, cr, row_most}
 
 -- a line, a reader and a cut by their parts
-abbrev pub lineIn : List ℕ → ℕ → Line
-lineIn bs n = record { bytes = bs; len = n }
+abbrev pub line_in : List ℕ → ℕ → Line
+line_in bs n = record { bytes = bs; len = n }
 
-abbrev pub readerIn : List ℕ → ℕ → Bool → Reader
-readerIn bs n h = record { line = lineIn bs n; held = h }
+abbrev pub reader_in : List ℕ → ℕ → Bool → Reader
+reader_in bs n h = record { line = line_in bs n; held = h }
 
 abbrev pub cut_at : Reader → ℕ → Bool → Cut
 cut_at r n e = record { reader = r; taken = n; ended = e }
 
 -- a row that has no byte yet
-unfoldable pub noLine : Line
-noLine = record { bytes = replicate rowMost 0; len = 0 }
+unfoldable pub no_line : Line
+no_line = record { bytes = replicate row_most 0; len = 0 }
 
 -- one byte more; a length of 65 stands for every length above 64
-unfoldable pub withByte : Line → ℕ → Line
-withByte l b =
-    cond (ltb l.len rowMost)
+unfoldable pub with_byte : Line → ℕ → Line
+with_byte l b =
+    cond (ltb l.len row_most)
     (record { bytes = set l.bytes l.len b; len = suc l.len })
-    (record { bytes = l.bytes; len = suc rowMost })
+    (record { bytes = l.bytes; len = suc row_most })
 
 -- a whole row
-unfoldable pub lineFrom : Line → List ℕ → Line
-lineFrom l [] = l
-lineFrom l (b ∷ bs) = lineFrom (withByte l b) bs
+unfoldable pub line_from : Line → List ℕ → Line
+line_from l [] = l
+line_from l (b ∷ bs) = line_from (with_byte l b) bs
 
 abbrev pub line_of : List ℕ → Line
-line_of row = lineFrom noLine row
+line_of row = line_from no_line row
 
 -- at a row's start. A CR is kept back until the next byte tells whether it belongs to the row
 unfoldable pub at_start : Reader
-at_start = record { line = noLine; held = false }
+at_start = record { line = no_line; held = false }
 
 -- the row with the CR that was kept back
 unfoldable pub unheld : Reader → Line
-unheld r = cond r.held (withByte r.line cr) r.line
+unheld r = cond r.held (with_byte r.line cr) r.line
 
 -- the byte ends the row
-unfoldable pub endsRow : Reader → ℕ → Bool
-endsRow r b = r.held && eqb b lf
+unfoldable pub ends_row : Reader → ℕ → Bool
+ends_row r b = r.held && eqb b lf
 
 -- after a byte that does not
-unfoldable pub afterByte : Reader → ℕ → Reader
-afterByte r b = cond (eqb b cr) (record { line = unheld r; held = true }) (record { line = withByte (unheld r) b; held = false })
+unfoldable pub after_byte : Reader → ℕ → Reader
+after_byte r b = cond (eqb b cr) (record { line = unheld r; held = true }) (record { line = with_byte (unheld r) b; held = false })
 
 -- up to the first byte that ends the row, or through all the bytes: how many were taken, and whether the row has ended
-unfoldable pub cutFrom : ℕ → Reader → List ℕ → Cut
-cutFrom n r [] = record { reader = r; taken = n; ended = false }
-cutFrom n r (b ∷ bs) =
-    let more = cutFrom (suc n) (afterByte r b) bs in
-    cond (endsRow r b) (record { reader = r; taken = suc n; ended = true }) more
+unfoldable pub cut_from : ℕ → Reader → List ℕ → Cut
+cut_from n r [] = record { reader = r; taken = n; ended = false }
+cut_from n r (b ∷ bs) =
+    let more = cut_from (suc n) (after_byte r b) bs in
+    cond (ends_row r b) (record { reader = r; taken = suc n; ended = true }) more
 
 -- ---- the rows that a reader finds in some bytes, and the reader after them
-unfoldable pub linesIn : Reader → List ℕ → List Line
-linesIn r [] = []
-linesIn r (b ∷ bs) =
-    let next = linesIn at_start bs in
-    let more = linesIn (afterByte r b) bs in
-    cond (endsRow r b) (r.line ∷ next) more
+unfoldable pub lines_in : Reader → List ℕ → List Line
+lines_in r [] = []
+lines_in r (b ∷ bs) =
+    let next = lines_in at_start bs in
+    let more = lines_in (after_byte r b) bs in
+    cond (ends_row r b) (r.line ∷ next) more
 
-unfoldable pub readerAfter : Reader → List ℕ → Reader
-readerAfter r [] = r
-readerAfter r (b ∷ bs) =
-    let next = readerAfter at_start bs in
-    let more = readerAfter (afterByte r b) bs in
-    cond (endsRow r b) next more
+unfoldable pub reader_after : Reader → List ℕ → Reader
+reader_after r [] = r
+reader_after r (b ∷ bs) =
+    let next = reader_after at_start bs in
+    let more = reader_after (after_byte r b) bs in
+    cond (ends_row r b) next more
 
 -- at the end of the input: the last row, where it has a byte
-unfoldable pub lastLines : Reader → List Line
-lastLines r = let l = unheld r in cond (eqb l.len 0) [] (l ∷ [])
+unfoldable pub last_lines : Reader → List Line
+last_lines r = let l = unheld r in cond (eqb l.len 0) [] (l ∷ [])

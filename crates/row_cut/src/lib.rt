@@ -1,6 +1,6 @@
 // Rows of an input that comes in chunks of any size. The state between two chunks is a struct by value, and no chunk is kept.
 ghost use Rattle.std.specs.Prelude.{◌≡◌};
-ghost use Rattle.row_cut.specs.Lines.{lineIn, readerIn, cut_at, withByte, at_start, unheld, cutFrom};
+ghost use Rattle.row_cut.specs.Lines.{line_in, reader_in, cut_at, with_byte, at_start, unheld, cut_from};
 
 use spec_text::ROW_MOST;
 
@@ -38,7 +38,7 @@ pub fn at_start() -> Reader
 
 // One byte more of a row: it is kept while there is room. The length after it, 65 standing for every length above 64.
 fn keep_byte(bytes: &mut [u8; ROW_MOST], len: usize, b: u8) -> usize
-    ensures { lineIn bytes.new result ≡ withByte (lineIn bytes.old len) b }
+    ensures { line_in bytes.new result ≡ with_byte (line_in bytes.old len) b }
 {
     if len < ROW_MOST {
         bytes[len] = b;
@@ -61,7 +61,7 @@ pub fn unheld(r: Reader) -> Line
 }
 
 fn cut_of(bytes: [u8; ROW_MOST], len: usize, held: bool, taken: usize, ended: bool) -> Cut
-    ensures { result ≡ cut_at (readerIn bytes len held) taken ended }
+    ensures { result ≡ cut_at (reader_in bytes len held) taken ended }
 {
     let line = Line { bytes, len };
     let reader = Reader { line, held };
@@ -74,7 +74,7 @@ fn cut_of(bytes: [u8; ROW_MOST], len: usize, held: bool, taken: usize, ended: bo
 
 // Reads up to the end of the row, or through the whole chunk where the row goes on after it.
 pub fn cut_row(r: Reader, chunk: &[u8]) -> Cut
-    ensures { result ≡ cutFrom 0 r chunk.now }
+    ensures { result ≡ cut_from 0 r chunk.now }
 {
     let line = r.line;
     let mut bytes = line.bytes;

@@ -2,8 +2,8 @@
 ghost use Rattle.std.specs.Prelude.{◌≡◌};
 ghost use Rattle.spec_lists.specs.Lists.{same_list};
 ghost use Rattle.spec_text.specs.declared.Field.TheVariants.{Needed};
-ghost use Rattle.row_fields.specs.FieldLaws.{toComma, fieldsAfter};
-ghost use Rattle.row_fields.specs.FieldReads.{fieldRead, fieldsRead};
+ghost use Rattle.row_fields.specs.FieldLaws.{to_comma, fields_after};
+ghost use Rattle.row_fields.specs.FieldReads.{field_read, fields_read};
 
 use spec_text::{FIELDS, Field};
 
@@ -38,7 +38,7 @@ pub fn matches(bytes: &[u8], string: &[u8]) -> bool
 
 // Where the first comma stands, or the text's length.
 pub fn first_comma(text: &[u8]) -> usize
-    ensures { result ≡ toComma text.now }
+    ensures { result ≡ to_comma text.now }
 {
     let mut i = 0;
     while i < text.len() {
@@ -52,7 +52,7 @@ pub fn first_comma(text: &[u8]) -> usize
 
 // A value past 32 bits is refused at its first digit too many, so that no step wraps.
 fn read_number(field: &[u8]) -> Number
-    ensures { result ≡ fieldRead Needed field.now }
+    ensures { result ≡ field_read Needed field.now }
 {
     let none = Number {
         good: false,
@@ -83,7 +83,7 @@ fn read_number(field: &[u8]) -> Number
 
 // An empty field has no number of its own: it counts as the one that its form gives, or as 0.
 fn read_field(field: &[u8], asked: Field) -> Number
-    ensures { result ≡ fieldRead asked field.now }
+    ensures { result ≡ field_read asked field.now }
 {
     match asked {
         Field::Needed => read_number(field),
@@ -105,7 +105,7 @@ fn read_field(field: &[u8], asked: Field) -> Number
 
 // The text is a comma and a field, as often as the form has fields.
 pub fn read_fields(text: &[u8], form: [Field; FIELDS]) -> Numbers
-    ensures { result ≡ fieldsRead form (fieldsAfter text.now) }
+    ensures { result ≡ fields_read form (fields_after text.now) }
 {
     let none = Numbers {
         good: false,

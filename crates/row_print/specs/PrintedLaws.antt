@@ -2,41 +2,41 @@
 use Rattle.std.specs.Prelude.{◌≡◌, refl, List, [], ◌∷◌, ℕ, ◌+◌, ◌*◌, ◌≤◌, length}
 use Rattle.std.proofs.Common.{arith}
 use Rattle.std.proofs.Math.ListN.{length-append}
-use Rattle.spec_lists.specs.Lists.{concatMap}
+use Rattle.spec_lists.specs.Lists.{concat_map}
 use Rattle.spec_model.specs.declared.Name.{Name}
 use Rattle.spec_rules.specs.Slots.{Run}
-use Rattle.row_write.specs.Digits.{decimal-most}
+use Rattle.row_write.specs.Digits.{decimal_most}
 pub use Rattle.row_write.specs.BytesLaws.{Wrote, wrote, contract, wrote_then, written_none}
 use Rattle.spec_shelf.specs.Bytes.{written}
-use Rattle.spec_shelf.specs.Printed.{nameField, headerRow, plainRow, streamRow, slotRowOf}
-use Rattle.spec_shelf.specs.Printed.{nameMost, headerMost, plainMost, streamMost, slotRowMost}
+use Rattle.spec_shelf.specs.Printed.{name_field, header_row, plain_row, stream_row, slot_row_of}
+use Rattle.spec_shelf.specs.Printed.{name_most, header_most, plain_most, stream_most, slot_row_most}
 
-pub name-most : (n : Name) → length (nameField n) ≤ nameMost
-unfolding nameField
-name-most n = decimal-most n.stream
+pub name_most_lem : (n : Name) → length (name_field n) ≤ name_most
+unfolding name_field
+name_most_lem n = decimal_most n.stream
 
 -- a rule for `omega`: where a name has been printed, its field is no longer
-pub named-most : (out after : List ℕ) (at : ℕ) (n : Name) → after ≡ written out at (44 ∷ nameField n) → length (nameField n) ≤ nameMost
-named-most out after at n e = name-most n
+pub named_most : (out after : List ℕ) (at : ℕ) (n : Name) → after ≡ written out at (44 ∷ name_field n) → length (name_field n) ≤ name_most
+named_most out after at n e = name_most_lem n
 
-pub header-row-length : length headerRow ≡ headerMost
-header-row-length = refl
+pub header_row_length : length header_row ≡ header_most
+header_row_length = refl
 
 module _ (verb : List ℕ) (answer : ℕ) where
-  pub plain-row-most : length (plainRow verb answer) ≤ length verb + plainMost
-  unfolding plainRow
-  plain-row-most = simp length-append (omega (arith, decimal-most answer))
+  pub plain_row_most : length (plain_row verb answer) ≤ length verb + plain_most
+  unfolding plain_row
+  plain_row_most = simp length-append (omega (arith, decimal_most answer))
 
-  pub stream-row-most : (n : Name) → length (streamRow verb n answer) ≤ length verb + streamMost
-  unfolding streamRow
-  stream-row-most n = simp length-append (omega (arith, name-most n, decimal-most answer))
+  pub stream_row_most : (n : Name) → length (stream_row verb n answer) ≤ length verb + stream_most
+  unfolding stream_row
+  stream_row_most n = simp length-append (omega (arith, name_most_lem n, decimal_most answer))
 
 -- ---- records
-pub slot-row-most : (r : Run) → length (slotRowOf r) ≤ slotRowMost
-unfolding slotRowOf
-slot-row-most r =
-    simp length-append (omega (arith, name-most r.name, decimal-most r.job, decimal-most r.start, decimal-most r.length))
+pub slot_row_most_lem : (r : Run) → length (slot_row_of r) ≤ slot_row_most
+unfolding slot_row_of
+slot_row_most_lem r =
+    simp length-append (omega (arith, name_most_lem r.name, decimal_most r.job, decimal_most r.start, decimal_most r.length))
 
-pub slot-rows-most : (rs : List Run) → length (concatMap slotRowOf rs) ≤ slotRowMost * length rs
-slot-rows-most [] = omega arith
-slot-rows-most (r ∷ rs) = simp length-append (omega (arith, slot-row-most r, slot-rows-most rs))
+pub slot_rows_most : (rs : List Run) → length (concat_map slot_row_of rs) ≤ slot_row_most * length rs
+slot_rows_most [] = omega arith
+slot_rows_most (r ∷ rs) = simp length-append (omega (arith, slot_row_most_lem r, slot_rows_most rs))

@@ -2,33 +2,33 @@
 // byte stays as it was. The caller lends room for the longest row.
 ghost use Rattle.std.specs.Prelude.{◌≡◌, ◌∷◌, ◌+◌, ◌≤◌, length};
 ghost use Rattle.spec_shelf.specs.Bytes.{written};
-ghost use Rattle.spec_shelf.specs.Printed.{nameMost, headerMost, plainMost, streamMost};
-ghost use Rattle.spec_shelf.specs.Printed.{nameField, headerRow, plainRow, streamRow};
+ghost use Rattle.spec_shelf.specs.Printed.{name_most, header_most, plain_most, stream_most};
+ghost use Rattle.spec_shelf.specs.Printed.{name_field, header_row, plain_row, stream_row};
 
 use spec_model::Name;
 
 const HEADER: [u8; 36] = *b"row,stream,job,start,length,answer\r\n";
 
 pub fn header_row(out: &mut [u8], at: usize) -> usize
-    requires { at + headerMost ≤ length out.old }
-    ensures { (result ≡ at + length headerRow) × (out.new ≡ written out.old at headerRow) }
+    requires { at + header_most ≤ length out.old }
+    ensures { (result ≡ at + length header_row) × (out.new ≡ written out.old at header_row) }
 {
     row_write::put_bytes(out, at, &HEADER)
 }
 
 // A comma and a name.
 pub fn put_name(out: &mut [u8], at: usize, n: Name) -> usize
-    requires { at + (nameMost + 1) ≤ length out.old }
-    ensures { (result ≡ at + length (44 ∷ nameField n)) × (out.new ≡ written out.old at (44 ∷ nameField n)) }
+    requires { at + (name_most + 1) ≤ length out.old }
+    ensures { (result ≡ at + length (44 ∷ name_field n)) × (out.new ≡ written out.old at (44 ∷ name_field n)) }
 {
     row_write::put_field(out, at, n.stream)
 }
 
 // A call without a name, and its answer.
 pub fn plain_row(out: &mut [u8], at: usize, verb: &[u8], answer: u32) -> usize
-    requires { at + (length verb.now + plainMost) ≤ length out.old }
-    ensures { (result ≡ at + length (plainRow verb.now answer))
-        × (out.new ≡ written out.old at (plainRow verb.now answer)) }
+    requires { at + (length verb.now + plain_most) ≤ length out.old }
+    ensures { (result ≡ at + length (plain_row verb.now answer))
+        × (out.new ≡ written out.old at (plain_row verb.now answer)) }
 {
     let second = row_write::put_bytes(out, at, verb);
     let last = row_write::put_bytes(out, second, b",,,,");
@@ -38,9 +38,9 @@ pub fn plain_row(out: &mut [u8], at: usize, verb: &[u8], answer: u32) -> usize
 
 // A call with a name, and its answer.
 pub fn stream_row(out: &mut [u8], at: usize, verb: &[u8], n: Name, answer: u32) -> usize
-    requires { at + (length verb.now + streamMost) ≤ length out.old }
-    ensures { (result ≡ at + length (streamRow verb.now n answer))
-        × (out.new ≡ written out.old at (streamRow verb.now n answer)) }
+    requires { at + (length verb.now + stream_most) ≤ length out.old }
+    ensures { (result ≡ at + length (stream_row verb.now n answer))
+        × (out.new ≡ written out.old at (stream_row verb.now n answer)) }
 {
     let second = row_write::put_bytes(out, at, verb);
     let third = put_name(out, second, n);

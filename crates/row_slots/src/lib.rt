@@ -1,16 +1,16 @@
 // The rows of a plan's records in lent memory, written as the rows of calls are.
 ghost use Rattle.std.specs.Prelude.{◌≡◌, ◌+◌, ◌*◌, ◌≤◌, length};
-ghost use Rattle.spec_rules.specs.Records.{recordWords};
+ghost use Rattle.spec_rules.specs.Records.{record_words};
 ghost use Rattle.plan_record.specs.Recorded.{run_of};
 ghost use Rattle.spec_shelf.specs.Bytes.{written};
-ghost use Rattle.spec_shelf.specs.Printed.{slotRowMost, slotRowOf, slotRows};
+ghost use Rattle.spec_shelf.specs.Printed.{slot_row_most, slot_row_of, slot_rows};
 
 use plan_record::Record;
 
 // A record.
 fn slot_row(out: &mut [u8], at: usize, r: Record) -> usize
-    requires { at + slotRowMost ≤ length out.old }
-    ensures { let row = slotRowOf (run_of r) in
+    requires { at + slot_row_most ≤ length out.old }
+    ensures { let row = slot_row_of (run_of r) in
         (result ≡ at + length row) × (out.new ≡ written out.old at row) }
 {
     let second = row_write::put_bytes(out, at, b"slot");
@@ -23,9 +23,9 @@ fn slot_row(out: &mut [u8], at: usize, r: Record) -> usize
 
 // A row for each of a plan's first records.
 pub fn slot_rows(out: &mut [u8], at: usize, plan: &[u32], count: usize) -> usize
-    requires count_in_bounds { recordWords * count ≤ length plan.now }
-    requires count_in_bounds_2 { at + slotRowMost * count ≤ length out.old }
-    ensures { let rows = slotRows count plan.now in
+    requires count_in_bounds { record_words * count ≤ length plan.now }
+    requires count_in_bounds_2 { at + slot_row_most * count ≤ length out.old }
+    ensures { let rows = slot_rows count plan.now in
         (result ≡ at + length rows) × (out.new ≡ written out.old at rows) }
 {
     let mut end = at;

@@ -7,9 +7,9 @@ use Rattle.std.proofs.Math.ListN.{length, drop, length-append}
 use Rattle.std.proofs.Math.Seq.{drop-append-add, drop-drop}
 use Rattle.std.proofs.lemmas.List.{set_split}
 use Rattle.base_lists.specs.Tests.{either}
-use Rattle.base_lists.specs.Loops.{left-next}
-use Rattle.spec_shelf.specs.Bytes.{decimal, written, numberMost}
-use Rattle.row_write.specs.Digits.{decimal-most}
+use Rattle.base_lists.specs.Loops.{left_next}
+use Rattle.spec_shelf.specs.Bytes.{decimal, written, number_most}
+use Rattle.row_write.specs.Digits.{decimal_most}
 
 -- ---- bytes in lent memory
 module _ (out : List ℕ) (at : ℕ) (a : List ℕ) where
@@ -20,9 +20,9 @@ module _ (out : List ℕ) (at : ℕ) (a : List ℕ) where
   front_length : at ≤ length out → length front ≡ at + length a
   front_length h = length-append (take at out) a ∙ ap (λ n. n + length a) (length-take-le at out h)
 
-  then-inside : (b : List ℕ) → at ≤ length out → written (written out at a) (at + length a) b ≡ written out at (a ++ b)
+  then_inside : (b : List ℕ) → at ≤ length out → written (written out at a) (at + length a) b ≡ written out at (a ++ b)
   unfolding written
-  then-inside b h =
+  then_inside b h =
       let n = at + length a in
       let rest = drop n out in
       let e : length front ≡ n = front_length h in
@@ -33,22 +33,22 @@ module _ (out : List ℕ) (at : ℕ) (a : List ℕ) where
       ∙ ap (λ p. p ++ drop (at + length (a ++ b)) out) (append_assoc (take at out) a b)
 
 -- past the end, what is written is joined on
-written-past : (out : List ℕ) (at : ℕ) (a : List ℕ) → length out ≤ at → written out at a ≡ out ++ a
+written_past : (out : List ℕ) (at : ℕ) (a : List ℕ) → length out ≤ at → written out at a ≡ out ++ a
 unfolding written
-written-past out at a h =
+written_past out at a h =
     ap₂ (λ p q. p ++ a ++ q) (take_all at out h) (drop_of_length-le out {i = at + length a} (omega arith)) ∙ append-nil (out ++ a)
 
 -- bytes, and others after them, are both
 pub written_then : (out : List ℕ) (at : ℕ) (a b : List ℕ) → written (written out at a) (at + length a) b ≡ written out at (a ++ b)
-written_then out at a b = ⊎_elim (λ e. then-inside out at a b (leb-true at (length out) e)) past (either (leb at (length out)))
+written_then out at a b = ⊎_elim (λ e. then_inside out at a b (leb-true at (length out) e)) past (either (leb at (length out)))
   where
     past : leb at (length out) ≡ false → written (written out at a) (at + length a) b ≡ written out at (a ++ b)
     past e =
         let l : length out ≤ at = omega (arith, leb-false at (length out) e) in
-        ap (λ o. written o (at + length a) b) (written-past out at a l)
-        ∙ written-past (out ++ a) (at + length a) b (omega (arith, length-append out a))
+        ap (λ o. written o (at + length a) b) (written_past out at a l)
+        ∙ written_past (out ++ a) (at + length a) b (omega (arith, length-append out a))
         ∙ append_assoc out a b
-        ∙ sym (written-past out at (a ++ b) l)
+        ∙ sym (written_past out at (a ++ b) l)
 
 -- nothing is written
 pub written_none : (out : List ℕ) (at : ℕ) → written out at [] ≡ out
@@ -71,9 +71,9 @@ pub contract : {out bytes after : List ℕ} {at next : ℕ} → Wrote out at byt
 contract w = (w.place, w.memory)
 
 -- a store of one byte
-pub wrote-byte : (out : List ℕ) (at b : ℕ) → at < length out → Wrote out at (b ∷ []) (set out at b) (at + 1)
+pub wrote_byte : (out : List ℕ) (at b : ℕ) → at < length out → Wrote out at (b ∷ []) (set out at b) (at + 1)
 unfolding written
-wrote-byte out at b h =
+wrote_byte out at b h =
     let z : suc at ≡ at + 1 = omega arith in
     record {
       place = refl;
@@ -90,29 +90,29 @@ wrote_then {out} {a} {b = b} {at = at} v w =
     }
 
 -- of some bytes and others the first are written, and the others are left
-pub wrote-rest : {out a mid b last : List ℕ} {at next end : ℕ} → Wrote out at (a ++ b) last end → Wrote out at a mid next
+pub wrote_rest : {out a mid b last : List ℕ} {at next end : ℕ} → Wrote out at (a ++ b) last end → Wrote out at a mid next
     → Wrote mid next b last end
-wrote-rest {out} {a} {b = b} {at = at} w v =
+wrote_rest {out} {a} {b = b} {at = at} w v =
     record {
       place = omega (arith, length-append a b, v.place, w.place);
       memory = w.memory ∙ sym (written_then out at a b) ∙ sym (ap₂ (λ o n. written o n b) v.memory v.place);
     }
 
 -- nothing is left
-pub wrote-all : {out last : List ℕ} {at end : ℕ} → Wrote out at [] last end → (at ≡ end) × (out ≡ last)
-wrote-all {out} {at = at} w = (omega (arith, w.place), sym (w.memory ∙ written_none out at))
+pub wrote_all : {out last : List ℕ} {at end : ℕ} → Wrote out at [] last end → (at ≡ end) × (out ≡ last)
+wrote_all {out} {at = at} w = (omega (arith, w.place), sym (w.memory ∙ written_none out at))
 
 -- a rule for `omega`: where a field has been printed, its number has at most ten digits
-pub field-most : (out after : List ℕ) (at n : ℕ) → after ≡ written out at (44 ∷ decimal n) → length (decimal n) ≤ numberMost
-field-most out after at n e = decimal-most n
+pub field_most : (out after : List ℕ) (at n : ℕ) → after ≡ written out at (44 ∷ decimal n) → length (decimal n) ≤ number_most
+field_most out after at n e = decimal_most n
 
 -- ---- the loop that copies bytes: those from i on are left
 abbrev pub BytesLeft : (out : List ℕ) (at : ℕ) (bytes : List ℕ) (i : ℕ) (last : List ℕ) (end : ℕ) → Type 0
 BytesLeft out at bytes i last end = Wrote out (at + i) (drop i bytes) last end
 
 module _ (out : List ℕ) (at : ℕ) (bytes : List ℕ) where
-  pub bytes-begin : BytesLeft out at bytes 0 (written out at bytes) (at + length bytes)
-  bytes-begin =
+  pub bytes_begin : BytesLeft out at bytes 0 (written out at bytes) (at + length bytes)
+  bytes_begin =
       let z : at ≡ at + 0 = omega arith in
       record { place = omega arith; memory = ap (λ n. written out n bytes) z }
 
@@ -121,4 +121,4 @@ module _ (out : List ℕ) (at : ℕ) (bytes : List ℕ) where
   bytes_next i {last} {end} h l w =
       let e : at + i + 1 ≡ at + (i + 1) = omega arith in
       subst (λ n. Wrote (set out (at + i) (get_or bytes i 0)) n (drop (i + 1) bytes) last end) e
-      (wrote-rest {a = get_or bytes i 0 ∷ []} (rw (left-next bytes i 0 l) at w) (wrote-byte out (at + i) (get_or bytes i 0) h))
+      (wrote_rest {a = get_or bytes i 0 ∷ []} (rw (left_next bytes i 0 l) at w) (wrote_byte out (at + i) (get_or bytes i 0) h))

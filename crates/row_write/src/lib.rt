@@ -1,8 +1,8 @@
 // Bytes, numbers and fields in lent memory. Each function writes at a place and answers the place after what it wrote; every other byte
 // stays as it was. The caller lends room.
 ghost use Rattle.std.specs.Prelude.{◌≡◌, [], ◌∷◌, ◌+◌, ◌/◌, ◌%◌, ◌≤◌, ◌<◌, length};
-ghost use Rattle.spec_shelf.specs.Bytes.{digit, numberMost, decimal, written};
-ghost use Rattle.row_write.specs.Groups.{threeDigits, Grouped};
+ghost use Rattle.spec_shelf.specs.Bytes.{digit, number_most, decimal, written};
+ghost use Rattle.row_write.specs.Groups.{three_digits, Grouped};
 
 const COMMA: u8 = 44;
 
@@ -31,7 +31,7 @@ fn put_two(out: &mut [u8], at: usize, n: u32) -> usize
 // All three digits of a number below a thousand, leading zeros too.
 fn put_three(out: &mut [u8], at: usize, n: u32) -> usize
     requires { (n < 1000) × (at + 3 ≤ length out.old) }
-    ensures { (result ≡ at + length (threeDigits n)) × (out.new ≡ written out.old at (threeDigits n)) }
+    ensures { (result ≡ at + length (three_digits n)) × (out.new ≡ written out.old at (three_digits n)) }
 {
     out[at] = (48 + n / 100) as u8;
     put_two(out, at + 1, n % 100)
@@ -80,7 +80,7 @@ fn groups_of(n: u32) -> Groups
 
 // The digits of a number, by dividing: its front, then the groups behind it. A number below a thousand is a front alone.
 pub fn put_number(out: &mut [u8], at: usize, n: u32) -> usize
-    requires { at + numberMost ≤ length out.old }
+    requires { at + number_most ≤ length out.old }
     ensures { (result ≡ at + length (decimal n)) × (out.new ≡ written out.old at (decimal n)) }
 {
     if n < 1000 {
@@ -99,7 +99,7 @@ pub fn put_number(out: &mut [u8], at: usize, n: u32) -> usize
 
 // A comma and a number.
 pub fn put_field(out: &mut [u8], at: usize, n: u32) -> usize
-    requires { at + (numberMost + 1) ≤ length out.old }
+    requires { at + (number_most + 1) ≤ length out.old }
     ensures { (result ≡ at + length (44 ∷ decimal n)) × (out.new ≡ written out.old at (44 ∷ decimal n)) }
 {
     out[at] = COMMA;

@@ -2,12 +2,12 @@
 // printing". What it does with each byte is in crate shelf_rows; here are the reads and writes, and what is handed from one to the next.
 ghost use Rattle.std.specs.Prelude.{◌≡◌, true, false, ◌≤◌, ◌<◌, length, take};
 ghost use Rattle.io.specs.Counts.{clamp_len};
-ghost use Rattle.spec_shelf.specs.Printed.{headerRow, written};
-ghost use Rattle.spec_rules.specs.Records.{planWords};
-ghost use Rattle.spec_shelf.specs.Room.{answerMost, Ready};
-ghost use Rattle.shelf_state.specs.Cutting.{firstShelf, lastRows};
+ghost use Rattle.spec_shelf.specs.Printed.{header_row, written};
+ghost use Rattle.spec_rules.specs.Records.{plan_words};
+ghost use Rattle.spec_shelf.specs.Room.{answer_most, Ready};
+ghost use Rattle.shelf_state.specs.Cutting.{first_shelf, last_rows};
 ghost use Rattle.shelf_write.specs.Flows.{Flowed};
-ghost use Rattle.shelf.specs.Runs.{ends, readsOn, mostBytes, Ran};
+ghost use Rattle.shelf.specs.Runs.{ends, reads_on, most_bytes, Ran};
 
 use shelf_state::Shelf;
 use shelf_write::Flow;
@@ -23,8 +23,8 @@ struct Run {
 // Serves a whole chunk, part after part, as long as every write takes what it is handed. So no answer waits for the next chunk.
 fn serve_chunk(s: Shelf, chunk: &[u8], plan: &mut [u32], out: &mut [u8]) -> Flow
     requires ready { Ready s.state }
-    requires plan_words_in_bounds { planWords ≤ length plan.old }
-    requires answer_most_in_bounds { answerMost ≤ length out.old }
+    requires plan_words_in_bounds { plan_words ≤ length plan.old }
+    requires answer_most_in_bounds { answer_most ≤ length out.old }
     ensures is { Flowed false s (take result.taken chunk.now) plan.old result plan.new }
     ensures all { result.well ≡ true → result.taken ≡ length chunk.now }
     ensures formed { Ready result.shelf.state }
@@ -47,11 +47,11 @@ fn serve_chunk(s: Shelf, chunk: &[u8], plan: &mut [u32], out: &mut [u8]) -> Flow
 // What a read answered is served: nothing where it failed, the last row at the end of the input, otherwise the bytes that it gave.
 fn serve_some(s: Shelf, got: isize, input: &[u8], plan: &mut [u32], out: &mut [u8]) -> Flow
     requires ready { Ready s.state }
-    requires plan_words_in_bounds { planWords ≤ length plan.old }
-    requires answer_most_in_bounds { answerMost ≤ length out.old }
+    requires plan_words_in_bounds { plan_words ≤ length plan.old }
+    requires answer_most_in_bounds { answer_most ≤ length out.old }
     ensures is { Flowed (ends got) s (take result.taken input.now) plan.old result plan.new }
     ensures all { let n = clamp_len got (length input.now) in (result.taken ≤ n) × (result.well ≡ true → result.taken ≡ n) }
-    ensures last { ends got ≡ true → out.new ≡ written out.old 0 (lastRows s) }
+    ensures last { ends got ≡ true → out.new ≡ written out.old 0 (last_rows s) }
     ensures formed { Ready result.shelf.state }
 {
     if got < 0 {
@@ -82,13 +82,13 @@ const MOST: usize = 9223372036854775807;
 // Read after read, once the header has been handed on. A proved loop has to end, and nothing says that the input does: this one ends after
 // MOST bytes at the latest.
 fn serve_all(s: Shelf, header: usize, input: &mut [u8], plan: &mut [u32], out: &mut [u8]) -> Run
-    requires s_value { s ≡ firstShelf }
-    requires header_value { (header ≡ length headerRow) × (take header out.old ≡ headerRow) }
-    requires plan_words_in_bounds { planWords ≤ length plan.old }
-    requires answer_most_in_bounds { answerMost ≤ length out.old }
+    requires s_value { s ≡ first_shelf }
+    requires header_value { (header ≡ length header_row) × (take header out.old ≡ header_row) }
+    requires plan_words_in_bounds { plan_words ≤ length plan.old }
+    requires answer_most_in_bounds { answer_most ≤ length out.old }
     ensures is { Ran (ends result.got) plan.old result.flow plan.new }
     ensures all { (result.flow.taken ≤ result.given) × (result.flow.well ≡ true → result.flow.taken ≡ result.given) }
-    ensures stops { result.given < mostBytes → readsOn result.got result.flow.well ≡ false }
+    ensures stops { result.given < most_bytes → reads_on result.got result.flow.well ≡ false }
 {
     let mut flow = Flow {
         shelf: s,

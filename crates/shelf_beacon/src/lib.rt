@@ -1,13 +1,13 @@
 // A row that is a beacon: the call, and the rows of its answer in lent memory.
 ghost use Rattle.std.specs.Prelude.{◌≡◌, ◌+◌, ◌≤◌, length};
-ghost use Rattle.spec_model.specs.Numbers.{noTableNumber};
-ghost use Rattle.spec_rules.specs.Records.{planWords};
+ghost use Rattle.spec_model.specs.Numbers.{no_table_number};
+ghost use Rattle.spec_rules.specs.Records.{plan_words};
 ghost use Rattle.call_beacon.specs.Moves.{Moves};
-ghost use Rattle.spec_shelf.specs.Commands.{beaconVerb};
+ghost use Rattle.spec_shelf.specs.Commands.{beacon_verb};
 ghost use Rattle.spec_shelf.specs.declared.Command.TheVariants.{Beacon};
-ghost use Rattle.spec_shelf.specs.Printed.{plainRow, written};
-ghost use Rattle.spec_shelf.specs.Meaning.{stateAfter, planAfter, rowsFor};
-ghost use Rattle.spec_shelf.specs.Room.{answerMost, state_of, Ready};
+ghost use Rattle.spec_shelf.specs.Printed.{plain_row, written};
+ghost use Rattle.spec_shelf.specs.Meaning.{state_after, plan_after, rows_for};
+ghost use Rattle.spec_shelf.specs.Room.{answer_most, state_of, Ready};
 
 use beacon_share::Shares;
 use spec_model::Table;
@@ -22,8 +22,8 @@ pub struct BeaconRows {
 
 // Where there is no table, there is none to move on.
 fn no_table(out: &mut [u8], at: usize) -> BeaconRows
-    requires { at + answerMost ≤ length out.old }
-    ensures { let bs = plainRow beaconVerb noTableNumber in
+    requires { at + answer_most ≤ length out.old }
+    ensures { let bs = plain_row beacon_verb no_table_number in
         (result.used ≡ 0) × ((result.at ≡ at + length bs) × (out.new ≡ written out.old at bs)) }
 {
     let next = row_print::plain_row(out, at, b"beacon", call_answers::NO_TABLE);
@@ -44,11 +44,11 @@ pub fn answer_beacon(
     at: usize,
 ) -> BeaconRows
     requires ready { Ready (state_of ready t) }
-    requires plan_words_in_bounds { planWords ≤ length plan.old }
-    requires answer_most_in_bounds { at + answerMost ≤ length out.old }
-    ensures { let s = state_of ready t in let bs = rowsFor s Beacon in
-        Moves t result.used result.shares (stateAfter s Beacon).table × ((result.at ≡ at + length bs)
-        × ((out.new ≡ written out.old at bs) × (plan.new ≡ planAfter s Beacon plan.old))) }
+    requires plan_words_in_bounds { plan_words ≤ length plan.old }
+    requires answer_most_in_bounds { at + answer_most ≤ length out.old }
+    ensures { let s = state_of ready t in let bs = rows_for s Beacon in
+        Moves t result.used result.shares (state_after s Beacon).table × ((result.at ≡ at + length bs)
+        × ((out.new ≡ written out.old at bs) × (plan.new ≡ plan_after s Beacon plan.old))) }
 {
     if !ready {
         return no_table(out, at);

@@ -1,19 +1,19 @@
 // A row that is an offer: the call, and the row of its answer in lent memory.
 ghost use Rattle.std.specs.Prelude.{◌≡◌, ◌+◌, ◌≤◌, length};
-ghost use Rattle.spec_model.specs.Tables.{putIn};
+ghost use Rattle.spec_model.specs.Tables.{put_in};
 ghost use Rattle.spec_shelf.specs.declared.Command.TheVariants.{Offer};
 ghost use Rattle.spec_shelf.specs.Printed.{written};
-ghost use Rattle.spec_shelf.specs.Meaning.{stateAfter, rowsFor};
-ghost use Rattle.spec_shelf.specs.Room.{answerMost, state_of, Ready};
+ghost use Rattle.spec_shelf.specs.Meaning.{state_after, rows_for};
+ghost use Rattle.spec_shelf.specs.Room.{answer_most, state_of, Ready};
 
 use shelf_open::Put;
 use spec_model::{Request, Table};
 
 pub fn answer_offer(ready: bool, t: Table, q: Request, out: &mut [u8], at: usize) -> Put
     requires ready { Ready (state_of ready t) }
-    requires answer_most_in_bounds { at + answerMost ≤ length out.old }
-    ensures { let s = state_of ready t in let bs = rowsFor s (Offer q) in
-        (state_of ready (putIn t result.place result.entry) ≡ stateAfter s (Offer q))
+    requires answer_most_in_bounds { at + answer_most ≤ length out.old }
+    ensures { let s = state_of ready t in let bs = rows_for s (Offer q) in
+        (state_of ready (put_in t result.place result.entry) ≡ state_after s (Offer q))
         × ((result.at ≡ at + length bs) × (out.new ≡ written out.old at bs)) }
 {
     if !ready {

@@ -1,12 +1,12 @@
 // A row's call, and the rows of its answer in lent memory. A call reads the table and gives back what is to be put in it: the caller
 // changes its own table in its place. Here are an opening, and what an offer and a withdrawal give back.
 ghost use Rattle.std.specs.Prelude.{◌≡◌, ◌+◌, ◌≤◌, eqb, length};
-ghost use Rattle.spec_model.specs.Entries.{freeEntry};
-ghost use Rattle.spec_model.specs.Tables.{noPlace};
-ghost use Rattle.spec_rules.specs.Settings.{openAnswer};
-ghost use Rattle.spec_shelf.specs.Commands.{openVerb};
-ghost use Rattle.spec_shelf.specs.Printed.{plainRow, written};
-ghost use Rattle.spec_shelf.specs.Room.{answerMost};
+ghost use Rattle.spec_model.specs.Entries.{free_entry};
+ghost use Rattle.spec_model.specs.Tables.{no_place};
+ghost use Rattle.spec_rules.specs.Settings.{open_answer};
+ghost use Rattle.spec_shelf.specs.Commands.{open_verb};
+ghost use Rattle.spec_shelf.specs.Printed.{plain_row, written};
+ghost use Rattle.spec_shelf.specs.Room.{answer_most};
 
 use spec_model::{Entry, Setting};
 
@@ -19,9 +19,9 @@ pub struct OpenRow {
 }
 
 pub fn answer_open(s: Setting, out: &mut [u8], at: usize) -> OpenRow
-    requires { at + answerMost ≤ length out.old }
-    ensures { let bs = plainRow openVerb (openAnswer s) in
-        (result.succeeded ≡ eqb (openAnswer s) 0) × ((result.at ≡ at + length bs) × (out.new ≡ written out.old at bs)) }
+    requires { at + answer_most ≤ length out.old }
+    ensures { let bs = plain_row open_verb (open_answer s) in
+        (result.succeeded ≡ eqb (open_answer s) 0) × ((result.at ≡ at + length bs) × (out.new ≡ written out.old at bs)) }
 {
     let answer = call_open::open_answer(s);
     let number = call_answers::open_number(answer);
@@ -43,7 +43,7 @@ pub struct Put {
 
 // Where there is no table, none changes.
 pub fn nothing_put(at: usize) -> Put
-    ensures { result ≡ record { at = at; place = noPlace; entry = freeEntry } }
+    ensures { result ≡ record { at = at; place = no_place; entry = free_entry } }
 {
     let entry = spec_model::free_entry();
     Put {

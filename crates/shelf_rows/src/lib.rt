@@ -2,11 +2,11 @@
 // rows, and between two chunks of the input, is a struct by value, see crate shelf_state.
 ghost use Rattle.std.specs.Prelude.{◌≡◌, ◌+◌, ◌≤◌, length, take};
 ghost use Rattle.spec_shelf.specs.Printed.{written};
-ghost use Rattle.spec_rules.specs.Records.{planWords};
-ghost use Rattle.spec_shelf.specs.Room.{answerMost, state_of, Ready};
-ghost use Rattle.shelf_state.specs.Cutting.{commandIn};
-ghost use Rattle.shelf_state.specs.Whole.{chunkRows, chunkPlan, shelfAfter};
-ghost use Rattle.shelf_state.specs.Parts.{servedTo};
+ghost use Rattle.spec_rules.specs.Records.{plan_words};
+ghost use Rattle.spec_shelf.specs.Room.{answer_most, state_of, Ready};
+ghost use Rattle.shelf_state.specs.Cutting.{command_in};
+ghost use Rattle.shelf_state.specs.Whole.{chunk_rows, chunk_plan, shelf_after};
+ghost use Rattle.shelf_state.specs.Parts.{served_to};
 
 use row_cut::{Line, Reader};
 use shelf_state::{Served, Shelf};
@@ -14,7 +14,7 @@ use spec_model::Table;
 use spec_shelf::{Command, State};
 
 fn command_in(line: Line) -> Command
-    ensures { result ≡ commandIn line }
+    ensures { result ≡ command_in line }
 {
     let len = line.len;
     if len <= spec_text::ROW_MOST {
@@ -25,7 +25,7 @@ fn command_in(line: Line) -> Command
 }
 
 fn served_to(reader: Reader, ready: bool, table: Table, taken: usize, at: usize) -> Served
-    ensures { result ≡ servedTo reader (state_of ready table) taken at }
+    ensures { result ≡ served_to reader (state_of ready table) taken at }
 {
     let state = State { ready, table };
     let shelf = Shelf { reader, state };
@@ -36,14 +36,14 @@ fn served_to(reader: Reader, ready: bool, table: Table, taken: usize, at: usize)
 // says is put there.
 pub fn serve_rows(s: Shelf, chunk: &[u8], plan: &mut [u32], out: &mut [u8], at: usize) -> Served
     requires ready { Ready s.state }
-    requires plan_words_in_bounds { planWords ≤ length plan.old }
-    requires answer_most_in_bounds { at + answerMost ≤ length out.old }
-    ensures is { let p = take result.taken chunk.now in let rows = chunkRows s p in
-        (result.shelf ≡ shelfAfter s p) × ((result.at ≡ at + length rows)
-        × ((out.new ≡ written out.old at rows) × (plan.new ≡ chunkPlan s p plan.old))) }
+    requires plan_words_in_bounds { plan_words ≤ length plan.old }
+    requires answer_most_in_bounds { at + answer_most ≤ length out.old }
+    ensures is { let p = take result.taken chunk.now in let rows = chunk_rows s p in
+        (result.shelf ≡ shelf_after s p) × ((result.at ≡ at + length rows)
+        × ((out.new ≡ written out.old at rows) × (plan.new ≡ chunk_plan s p plan.old))) }
     ensures formed { Ready result.shelf.state }
     ensures far { let n = length chunk.now in let room = length out.old in
-        (result.taken ≤ n) × ((result.at ≤ room) × (result.at + answerMost ≤ room → result.taken ≡ n)) }
+        (result.taken ≤ n) × ((result.at ≤ room) × (result.at + answer_most ≤ room → result.taken ≡ n)) }
 {
     let mut reader = s.reader;
     let state = s.state;

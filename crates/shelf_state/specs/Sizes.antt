@@ -4,24 +4,24 @@ use Rattle.std.proofs.Common.{⊎_elim, arith}
 use Rattle.std.specs.Prelude.{List, ℕ, ◌≤◌, ◌<◌, eqb, length}
 use Rattle.base_lists.specs.Tests.{either}
 use Rattle.row_cut.specs.Lines.{unheld}
-use Rattle.row_cut.specs.Cuts.{row-ended, row_open}
-use Rattle.spec_shelf.specs.Room.{answerMost, Ready}
-use Rattle.law_rows.specs.Sizes.{rows-most}
+use Rattle.row_cut.specs.Cuts.{row_ended, row_open}
+use Rattle.spec_shelf.specs.Room.{answer_most, Ready}
+use Rattle.law_rows.specs.Sizes.{rows_most}
 use Rattle.shelf_state.specs.declared.Shelf.{Shelf}
-use Rattle.shelf_state.specs.Cutting.{commandIn, cut_of, lastRows}
+use Rattle.shelf_state.specs.Cutting.{command_in, cut_of, last_rows}
 
-pub cut-taken : (s : Shelf) (chunk : List ℕ) → ((cut_of s chunk).taken ≤ length chunk) × (0 < length chunk → 0 < (cut_of s chunk).taken)
-cut-taken s chunk =
+pub cut_taken : (s : Shelf) (chunk : List ℕ) → ((cut_of s chunk).taken ≤ length chunk) × (0 < length chunk → 0 < (cut_of s chunk).taken)
+cut_taken s chunk =
     ⊎_elim
-    (λ e. let x = row-ended 0 s.reader chunk e in
+    (λ e. let x = row_ended 0 s.reader chunk e in
     let t = x.taken in let i = x.inside in let p = x.some in (omega arith, λ _. omega arith))
     (λ e. let t = (row_open 0 s.reader chunk e).0 in (omega arith, λ h. omega arith))
     (either (cut_of s chunk).ended)
 
-pub last-most : (s : Shelf) → Ready s.state → length (lastRows s) ≤ answerMost
-unfolding lastRows
-last-most s r =
+pub last_most : (s : Shelf) → Ready s.state → length (last_rows s) ≤ answer_most
+unfolding last_rows
+last_most s r =
     ⊎_elim
     (λ e. rw e (omega arith))
-    (λ e. rw e (rows-most s.state (commandIn (unheld s.reader)) r))
+    (λ e. rw e (rows_most s.state (command_in (unheld s.reader)) r))
     (either (eqb (unheld s.reader).len 0))

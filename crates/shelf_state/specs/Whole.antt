@@ -3,128 +3,128 @@
 use Rattle.std.specs.Prelude.{◌≡◌, refl, true, false, cond, List, [], ◌∷◌, ◌++◌, map, ℕ, leb, eqb, length}
 use Rattle.std.proofs.Common.{sym, ap, ap₂, ◌∙◌, ⊎_elim, append-nil, append_assoc, leb-true, leb-false}
 use Rattle.std.proofs.lemmas.List.{map-append}
-use Rattle.spec_lists.specs.Lists.{concatMap}
+use Rattle.spec_lists.specs.Lists.{concat_map}
 use Rattle.base_lists.specs.Tests.{either}
-use Rattle.spec_text.specs.Rows.{rowMost, rows_of}
-use Rattle.row_cut.specs.Lines.{line_of, unheld, linesIn, readerAfter, lastLines}
-use Rattle.row_cut.specs.Chunks.{lines-append, after-append, rows-found}
-use Rattle.row_cut.specs.Kept.{text_of, kept_whole, kept-long}
-use Rattle.spec_shelf.specs.Commands.{commandOf}
+use Rattle.spec_text.specs.Rows.{row_most, rows_of}
+use Rattle.row_cut.specs.Lines.{line_of, unheld, lines_in, reader_after, last_lines}
+use Rattle.row_cut.specs.Chunks.{lines_append, after_append, rows_found}
+use Rattle.row_cut.specs.Kept.{text_of, kept_whole, kept_long}
+use Rattle.spec_shelf.specs.Commands.{command_of}
 use Rattle.spec_shelf.specs.declared.Command.{Command}
 use Rattle.spec_shelf.specs.declared.Command.TheVariants.{OtherForm}
-use Rattle.spec_shelf.specs.Printed.{headerRow}
+use Rattle.spec_shelf.specs.Printed.{header_row}
 use Rattle.spec_shelf.specs.declared.State.{State}
 use Rattle.shelf_state.specs.declared.Shelf.{Shelf}
-use Rattle.spec_shelf.specs.Meaning.{firstState, stateAfter, planAfter, rowsFor, printed, outputOf}
-use Rattle.shelf_state.specs.Cutting.{firstShelf, commandIn, lastRows}
+use Rattle.spec_shelf.specs.Meaning.{first_state, state_after, plan_after, rows_for, printed, output_of}
+use Rattle.shelf_state.specs.Cutting.{first_shelf, command_in, last_rows}
 
 -- ---- a chunk
-unfoldable pub stateRun : State → List Command → State
-stateRun s [] = s
-stateRun s (c ∷ cs) = stateRun (stateAfter s c) cs
+unfoldable pub state_run : State → List Command → State
+state_run s [] = s
+state_run s (c ∷ cs) = state_run (state_after s c) cs
 
-unfoldable pub planRun : State → List Command → List ℕ → List ℕ
-planRun s [] ws = ws
-planRun s (c ∷ cs) ws = planRun (stateAfter s c) cs (planAfter s c ws)
+unfoldable pub plan_run : State → List Command → List ℕ → List ℕ
+plan_run s [] ws = ws
+plan_run s (c ∷ cs) ws = plan_run (state_after s c) cs (plan_after s c ws)
 
-abbrev pub commandsIn : Shelf → List ℕ → List Command
-commandsIn s chunk = map commandIn (linesIn s.reader chunk)
+abbrev pub commands_in : Shelf → List ℕ → List Command
+commands_in s chunk = map command_in (lines_in s.reader chunk)
 
 -- the rows that a chunk gives, the plan's memory after it, and the shelf
-unfoldable pub chunkRows : Shelf → List ℕ → List ℕ
-chunkRows s chunk = printed s.state (commandsIn s chunk)
+unfoldable pub chunk_rows : Shelf → List ℕ → List ℕ
+chunk_rows s chunk = printed s.state (commands_in s chunk)
 
-unfoldable pub chunkPlan : Shelf → List ℕ → List ℕ → List ℕ
-chunkPlan s chunk ws = planRun s.state (commandsIn s chunk) ws
+unfoldable pub chunk_plan : Shelf → List ℕ → List ℕ → List ℕ
+chunk_plan s chunk ws = plan_run s.state (commands_in s chunk) ws
 
-unfoldable pub shelfAfter : Shelf → List ℕ → Shelf
-shelfAfter s chunk = record { reader = readerAfter s.reader chunk; state = stateRun s.state (commandsIn s chunk) }
+unfoldable pub shelf_after : Shelf → List ℕ → Shelf
+shelf_after s chunk = record { reader = reader_after s.reader chunk; state = state_run s.state (commands_in s chunk) }
 
 -- one chunk after the other, and then the last row
 unfoldable pub served : Shelf → List (List ℕ) → List ℕ
-served s [] = lastRows s
-served s (c ∷ cs) = chunkRows s c ++ served (shelfAfter s c) cs
+served s [] = last_rows s
+served s (c ∷ cs) = chunk_rows s c ++ served (shelf_after s c) cs
 
 -- ---- two chunks are as good as one
-printed-append : (s : State) (cs ds : List Command) → printed s (cs ++ ds) ≡ printed s cs ++ printed (stateRun s cs) ds
-unfolding printed stateRun
-printed-append s [] ds = refl
-printed-append s (c ∷ cs) ds =
-    ap (λ r. rowsFor s c ++ r) (printed-append (stateAfter s c) cs ds) ∙ sym (append_assoc (rowsFor s c) _ _)
+printed_append : (s : State) (cs ds : List Command) → printed s (cs ++ ds) ≡ printed s cs ++ printed (state_run s cs) ds
+unfolding printed state_run
+printed_append s [] ds = refl
+printed_append s (c ∷ cs) ds =
+    ap (λ r. rows_for s c ++ r) (printed_append (state_after s c) cs ds) ∙ sym (append_assoc (rows_for s c) _ _)
 
-run-append : (s : State) (cs ds : List Command) → stateRun s (cs ++ ds) ≡ stateRun (stateRun s cs) ds
-unfolding stateRun
-run-append s [] ds = refl
-run-append s (c ∷ cs) ds = run-append (stateAfter s c) cs ds
+run_append : (s : State) (cs ds : List Command) → state_run s (cs ++ ds) ≡ state_run (state_run s cs) ds
+unfolding state_run
+run_append s [] ds = refl
+run_append s (c ∷ cs) ds = run_append (state_after s c) cs ds
 
-plan-append : (s : State) (cs ds : List Command) (ws : List ℕ) → planRun s (cs ++ ds) ws ≡ planRun (stateRun s cs) ds (planRun s cs ws)
-unfolding stateRun planRun
-plan-append s [] ds ws = refl
-plan-append s (c ∷ cs) ds ws = plan-append (stateAfter s c) cs ds (planAfter s c ws)
+plan_append : (s : State) (cs ds : List Command) (ws : List ℕ) → plan_run s (cs ++ ds) ws ≡ plan_run (state_run s cs) ds (plan_run s cs ws)
+unfolding state_run plan_run
+plan_append s [] ds ws = refl
+plan_append s (c ∷ cs) ds ws = plan_append (state_after s c) cs ds (plan_after s c ws)
 
-commands-append : (s : Shelf) (xs ys : List ℕ) → commandsIn s (xs ++ ys) ≡ commandsIn s xs ++ commandsIn (shelfAfter s xs) ys
-unfolding shelfAfter
-commands-append s xs ys = ap (map commandIn) (lines-append s.reader xs ys) ∙ map-append commandIn (linesIn s.reader xs) _
+commands_append : (s : Shelf) (xs ys : List ℕ) → commands_in s (xs ++ ys) ≡ commands_in s xs ++ commands_in (shelf_after s xs) ys
+unfolding shelf_after
+commands_append s xs ys = ap (map command_in) (lines_append s.reader xs ys) ∙ map-append command_in (lines_in s.reader xs) _
 
-pub rows_append : (s : Shelf) (xs ys : List ℕ) → chunkRows s (xs ++ ys) ≡ chunkRows s xs ++ chunkRows (shelfAfter s xs) ys
-unfolding chunkRows shelfAfter
-rows_append s xs ys = ap (printed s.state) (commands-append s xs ys) ∙ printed-append s.state (commandsIn s xs) _
+pub rows_append : (s : Shelf) (xs ys : List ℕ) → chunk_rows s (xs ++ ys) ≡ chunk_rows s xs ++ chunk_rows (shelf_after s xs) ys
+unfolding chunk_rows shelf_after
+rows_append s xs ys = ap (printed s.state) (commands_append s xs ys) ∙ printed_append s.state (commands_in s xs) _
 
-pub after_both : (s : Shelf) (xs ys : List ℕ) → shelfAfter s (xs ++ ys) ≡ shelfAfter (shelfAfter s xs) ys
-unfolding shelfAfter
+pub after_both : (s : Shelf) (xs ys : List ℕ) → shelf_after s (xs ++ ys) ≡ shelf_after (shelf_after s xs) ys
+unfolding shelf_after
 after_both s xs ys =
-    ap₂ (λ r t. record { reader = r; state = t }) (after-append s.reader xs ys)
-    (ap (stateRun s.state) (commands-append s xs ys) ∙ run-append s.state (commandsIn s xs) _)
+    ap₂ (λ r t. record { reader = r; state = t }) (after_append s.reader xs ys)
+    (ap (state_run s.state) (commands_append s xs ys) ∙ run_append s.state (commands_in s xs) _)
 
-pub plan-both : (s : Shelf) (xs ys ws : List ℕ) → chunkPlan s (xs ++ ys) ws ≡ chunkPlan (shelfAfter s xs) ys (chunkPlan s xs ws)
-unfolding chunkPlan shelfAfter
-plan-both s xs ys ws =
-    ap (λ cs. planRun s.state cs ws) (commands-append s xs ys) ∙ plan-append s.state (commandsIn s xs) _ ws
+pub plan_both : (s : Shelf) (xs ys ws : List ℕ) → chunk_plan s (xs ++ ys) ws ≡ chunk_plan (shelf_after s xs) ys (chunk_plan s xs ws)
+unfolding chunk_plan shelf_after
+plan_both s xs ys ws =
+    ap (λ cs. plan_run s.state cs ws) (commands_append s xs ys) ∙ plan_append s.state (commands_in s xs) _ ws
 
 -- ---- the chunks are the input
-last-printed : (s : Shelf) → lastRows s ≡ printed s.state (map commandIn (lastLines s.reader))
-unfolding lastRows lastLines printed
-last-printed s = ⊎_elim (λ e. rw e refl) (λ e. rw e (sym (append-nil _))) (either (eqb (unheld s.reader).len 0))
+last_printed : (s : Shelf) → last_rows s ≡ printed s.state (map command_in (last_lines s.reader))
+unfolding last_rows last_lines printed
+last_printed s = ⊎_elim (λ e. rw e refl) (λ e. rw e (sym (append-nil _))) (either (eqb (unheld s.reader).len 0))
 
 abbrev input_of : List (List ℕ) → List ℕ
-input_of cs = concatMap (λ c. c) cs
+input_of cs = concat_map (λ c. c) cs
 
-served-all : (s : Shelf) (cs : List (List ℕ)) → served s cs
-    ≡ printed s.state (map commandIn (linesIn s.reader (input_of cs) ++ lastLines (readerAfter s.reader (input_of cs))))
-unfolding served linesIn readerAfter chunkRows shelfAfter
-served-all s [] = last-printed s
-served-all s (c ∷ cs) =
+served_all : (s : Shelf) (cs : List (List ℕ)) → served s cs
+    ≡ printed s.state (map command_in (lines_in s.reader (input_of cs) ++ last_lines (reader_after s.reader (input_of cs))))
+unfolding served lines_in reader_after chunk_rows shelf_after
+served_all s [] = last_printed s
+served_all s (c ∷ cs) =
     let r = s.reader in
     let bs = input_of cs in
-    let ls = linesIn r c in
-    let after = linesIn (readerAfter r c) bs ++ lastLines (readerAfter (readerAfter r c) bs) in
-    let whole : linesIn r (c ++ bs) ++ lastLines (readerAfter r (c ++ bs)) ≡ ls ++ after =
-    rw (lines-append r c bs, after-append r c bs) (append_assoc ls _ _) in
-    ap (λ x. chunkRows s c ++ x) (served-all (shelfAfter s c) cs)
-    ∙ sym (printed-append s.state (map commandIn ls) (map commandIn after))
-    ∙ ap (printed s.state) (sym (map-append commandIn ls after))
-    ∙ ap (λ x. printed s.state (map commandIn x)) (sym whole)
+    let ls = lines_in r c in
+    let after = lines_in (reader_after r c) bs ++ last_lines (reader_after (reader_after r c) bs) in
+    let whole : lines_in r (c ++ bs) ++ last_lines (reader_after r (c ++ bs)) ≡ ls ++ after =
+    rw (lines_append r c bs, after_append r c bs) (append_assoc ls _ _) in
+    ap (λ x. chunk_rows s c ++ x) (served_all (shelf_after s c) cs)
+    ∙ sym (printed_append s.state (map command_in ls) (map command_in after))
+    ∙ ap (printed s.state) (sym (map-append command_in ls after))
+    ∙ ap (λ x. printed s.state (map command_in x)) (sym whole)
 
 -- what a line keeps of its row is enough
-line-command : (row : List ℕ) → commandIn (line_of row) ≡ commandOf row
-unfolding commandIn commandOf
-line-command row = ⊎_elim short long (either (leb (length row) rowMost))
+line_command : (row : List ℕ) → command_in (line_of row) ≡ command_of row
+unfolding command_in command_of
+line_command row = ⊎_elim short long (either (leb (length row) row_most))
   where
-    short : leb (length row) rowMost ≡ true → commandIn (line_of row) ≡ commandOf row
+    short : leb (length row) row_most ≡ true → command_in (line_of row) ≡ command_of row
     short e =
         let k = kept_whole row (leb-true _ _ e) in
-        ap (λ n. cond (leb n rowMost) (commandOf (text_of (line_of row))) OtherForm) k.0 ∙ rw (e, k.1, e) refl
+        ap (λ n. cond (leb n row_most) (command_of (text_of (line_of row))) OtherForm) k.0 ∙ rw (e, k.1, e) refl
 
-    long : leb (length row) rowMost ≡ false → commandIn (line_of row) ≡ commandOf row
-    long e = rw (kept-long row (leb-false _ _ e), e) refl
+    long : leb (length row) row_most ≡ false → command_in (line_of row) ≡ command_of row
+    long e = rw (kept_long row (leb-false _ _ e), e) refl
 
-lines-commands : (rows : List (List ℕ)) → map commandIn (map line_of rows) ≡ map commandOf rows
-lines-commands [] = refl
-lines-commands (r ∷ rs) = rw (line-command r, lines-commands rs) refl
+lines_commands : (rows : List (List ℕ)) → map command_in (map line_of rows) ≡ map command_of rows
+lines_commands [] = refl
+lines_commands (r ∷ rs) = rw (line_command r, lines_commands rs) refl
 
-pub whole-output : (chunks : List (List ℕ)) → headerRow ++ served firstShelf chunks ≡ outputOf (input_of chunks)
-unfolding outputOf firstShelf
-whole-output cs =
-    ap (λ x. headerRow ++ x) (served-all firstShelf cs
-    ∙ ap (λ x. printed firstState (map commandIn x)) (rows-found (input_of cs))
-    ∙ ap (printed firstState) (lines-commands (rows_of (input_of cs))))
+pub whole_output : (chunks : List (List ℕ)) → header_row ++ served first_shelf chunks ≡ output_of (input_of chunks)
+unfolding output_of first_shelf
+whole_output cs =
+    ap (λ x. header_row ++ x) (served_all first_shelf cs
+    ∙ ap (λ x. printed first_state (map command_in x)) (rows_found (input_of cs))
+    ∙ ap (printed first_state) (lines_commands (rows_of (input_of cs))))

@@ -1,7 +1,7 @@
 // What stands between two rows of the text, and between two chunks of it: a struct by value. What a whole chunk gives is in specs/.
 ghost use Rattle.std.specs.Prelude.{◌≡◌};
 ghost use Rattle.spec_shelf.specs.Room.{Ready};
-ghost use Rattle.shelf_state.specs.Cutting.{firstShelf};
+ghost use Rattle.shelf_state.specs.Cutting.{first_shelf};
 
 use row_cut::Reader;
 use spec_shelf::State;
@@ -22,7 +22,7 @@ pub struct Served {
 }
 
 pub fn first_shelf() -> Shelf
-    ensures is { result ≡ firstShelf }
+    ensures is { result ≡ first_shelf }
     ensures formed { Ready result.state }
 {
     let table = call_open::no_table();

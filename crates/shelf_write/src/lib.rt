@@ -2,11 +2,11 @@
 // handed to it, and how many bytes that is, the contracts say.
 ghost use Rattle.std.specs.Prelude.{◌≡◌, ◌+◌, ◌^◌, ◌<◌, ◌≤◌, false, length, take};
 ghost use Rattle.spec_shelf.specs.Printed.{written};
-ghost use Rattle.spec_rules.specs.Records.{planWords};
-ghost use Rattle.spec_shelf.specs.Room.{answerMost, Ready};
-ghost use Rattle.shelf_state.specs.Cutting.{lastRows, lastPlan};
-ghost use Rattle.shelf_state.specs.Whole.{chunkRows};
-ghost use Rattle.shelf_write.specs.Flows.{Flowed, flowThen};
+ghost use Rattle.spec_rules.specs.Records.{plan_words};
+ghost use Rattle.spec_shelf.specs.Room.{answer_most, Ready};
+ghost use Rattle.shelf_state.specs.Cutting.{last_rows, last_plan};
+ghost use Rattle.shelf_state.specs.Whole.{chunk_rows};
+ghost use Rattle.shelf_write.specs.Flows.{Flowed, flow_then};
 
 use shelf_state::Shelf;
 
@@ -45,7 +45,7 @@ pub fn put(out: &[u8], at: usize) -> Handed
 // Some bytes are served, and then others.
 pub fn joined(a: Flow, b: Flow) -> Flow
     requires { a.taken + b.taken < 2 ^ 64 }
-    ensures { result ≡ flowThen a b }
+    ensures { result ≡ flow_then a b }
 {
     let shelf = b.shelf;
     Flow {
@@ -60,11 +60,11 @@ pub fn joined(a: Flow, b: Flow) -> Flow
 pub fn serve_part(s: Shelf, chunk: &[u8], plan: &mut [u32], out: &mut [u8]) -> Flow
     requires ready { Ready s.state }
     requires chunk_nonzero { 0 < length chunk.now }
-    requires plan_words_in_bounds { planWords ≤ length plan.old }
-    requires answer_most_in_bounds { answerMost ≤ length out.old }
+    requires plan_words_in_bounds { plan_words ≤ length plan.old }
+    requires answer_most_in_bounds { answer_most ≤ length out.old }
     ensures is { let p = take result.taken chunk.now in
         (Flowed false s p plan.old result plan.new)
-        × (out.new ≡ written out.old 0 (chunkRows s p)) }
+        × (out.new ≡ written out.old 0 (chunk_rows s p)) }
     ensures some { 0 < result.taken }
     ensures formed { Ready result.shelf.state }
 {
@@ -82,11 +82,11 @@ pub fn serve_part(s: Shelf, chunk: &[u8], plan: &mut [u32], out: &mut [u8]) -> F
 // The last row, which the end of the input shows.
 pub fn serve_last(s: Shelf, plan: &mut [u32], out: &mut [u8]) -> Handed
     requires ready { Ready s.state }
-    requires plan_words_in_bounds { planWords ≤ length plan.old }
-    requires answer_most_in_bounds { answerMost ≤ length out.old }
-    ensures { let rows = lastRows s in
+    requires plan_words_in_bounds { plan_words ≤ length plan.old }
+    requires answer_most_in_bounds { answer_most ≤ length out.old }
+    ensures { let rows = last_rows s in
         (result.bytes ≡ length rows) × ((out.new ≡ written out.old 0 rows)
-        × (plan.new ≡ lastPlan s plan.old)) }
+        × (plan.new ≡ last_plan s plan.old)) }
 {
     let at = shelf_end::finish(s, plan, out, 0);
     put(out, at)

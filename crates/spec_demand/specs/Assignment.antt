@@ -2,8 +2,8 @@
 -- nothing.
 use Rattle.std.specs.Prelude.{◌≡◌, Bool, false, ℕ, ◌<◌}
 use Rattle.std.proofs.Math.Option.{Option, none, some}
-use Rattle.spec_lists.specs.Lists.{one-if, span}
-use Rattle.spec_model.specs.Frames.{headerIn}
+use Rattle.spec_lists.specs.Lists.{one_if, span}
+use Rattle.spec_model.specs.Frames.{header_in}
 use Rattle.spec_model.specs.Names.{same}
 use Rattle.spec_model.specs.declared.Frame.{Frame}
 use Rattle.spec_model.specs.declared.Name.{Name}
@@ -12,14 +12,14 @@ use Rattle.spec_model.specs.declared.Name.{Name}
 abbrev pub Assignment : Type 0
 Assignment = ℕ → ℕ → Option Name
 
-abbrev pub isTo : Name → Option Name → Bool
-isTo n none = false
-isTo n (some x) = same x n
+abbrev pub is_to : Name → Option Name → Bool
+is_to n none = false
+is_to n (some x) = same x n
 
 -- the slots from x up to y of coming interval k that go to request n
 unfoldable pub assigned : Assignment → Name → (k x y : ℕ) → ℕ
-assigned a n k x y = span (λ z. one-if (isTo n (a k z))) x y
+assigned a n k x y = span (λ z. one_if (is_to n (a k z))) x y
 
 -- the header of each coming interval is left free
 abbrev pub LeavesHeader : Frame → Assignment → Type 0
-LeavesHeader F a = (k x : ℕ) → x < headerIn F → a k x ≡ none
+LeavesHeader F a = (k x : ℕ) → x < header_in F → a k x ≡ none

@@ -5,8 +5,8 @@ use Rattle.spec_model.specs.declared.Name.{Name}
 use Rattle.spec_model.specs.declared.Request.{Request}
 use Rattle.spec_model.specs.declared.Table.{Table}
 use Rattle.spec_rules.specs.Slots.{Run}
-use Rattle.spec_rules.specs.Records.{recordsOf}
-use Rattle.spec_rules.specs.Calls.{offerAnswer, offered, heldAnswer, withdrawn, beacon}
+use Rattle.spec_rules.specs.Records.{records_of}
+use Rattle.spec_rules.specs.Calls.{offer_answer, offered, held_answer, withdrawn, beacon}
 
 -- a call with its arguments; a beacon's is the memory lent to it
 pub data Call : Type 0 where
@@ -21,18 +21,18 @@ pub record Seen : Type 0 where
   pub plan : List Run
 
 -- a call on a table: its answer, the plan as it left it, and with them what is seen of it
-unfoldable pub answerOn : Table → Call → ℕ
-answerOn t (Offer q) = offerAnswer t q
-answerOn t (Withdraw n) = heldAnswer t n
-answerOn t (Beacon ws) = (beacon t ws).answer
+unfoldable pub answer_on : Table → Call → ℕ
+answer_on t (Offer q) = offer_answer t q
+answer_on t (Withdraw n) = held_answer t n
+answer_on t (Beacon ws) = (beacon t ws).answer
 
-unfoldable pub planOn : Table → Call → List Run
-planOn t (Offer q) = []
-planOn t (Withdraw n) = []
-planOn t (Beacon ws) = let b = beacon t ws in recordsOf b.count b.words
+unfoldable pub plan_on : Table → Call → List Run
+plan_on t (Offer q) = []
+plan_on t (Withdraw n) = []
+plan_on t (Beacon ws) = let b = beacon t ws in records_of b.count b.words
 
 abbrev pub seen : Table → Call → Seen
-seen t c = record { call = c; answer = answerOn t c; plan = planOn t c }
+seen t c = record { call = c; answer = answer_on t c; plan = plan_on t c }
 
 -- the table that it leaves
 unfoldable pub after : Table → Call → Table
@@ -46,6 +46,6 @@ history t [] = []
 history t (c ∷ cs) = seen t c ∷ history (after t c) cs
 
 -- the table after a list of calls
-unfoldable pub tableAfter : Table → List Call → Table
-tableAfter t [] = t
-tableAfter t (c ∷ cs) = tableAfter (after t c) cs
+unfoldable pub table_after : Table → List Call → Table
+table_after t [] = t
+table_after t (c ∷ cs) = table_after (after t c) cs

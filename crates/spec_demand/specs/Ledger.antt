@@ -18,8 +18,8 @@ pub record Ledger : Type 0 where
   pub past : List Admission
 
 -- what each period of a request asks: the minimum, of a transfer its amount
-abbrev pub askedBy : Request → ℕ
-askedBy q = q.min
+abbrev pub asked_by : Request → ℕ
+asked_by q = q.min
 
 abbrev pub begins : Request → Admission
 begins q = record { request = q; plans = [] }
@@ -37,23 +37,23 @@ is_of n h = same h.request.name n
 
 -- what a call that answers 0 does: an offer begins an admission; a withdrawal ends that of its name; a beacon, with its plan rs, is an
 -- interval of each that lasts, and after as many as its life it has ended
-unfoldable pub noteDone : Ledger → Call → List Run → Ledger
-noteDone l (Offer q) rs = record { held = begins q ∷ l.held; past = l.past }
-noteDone l (Withdraw n) rs = record { held = keep (λ h. not (is_of n h)) l.held; past = keep (is_of n) l.held ++ l.past }
-noteDone l (Beacon ws) rs =
+unfoldable pub note_done : Ledger → Call → List Run → Ledger
+note_done l (Offer q) rs = record { held = begins q ∷ l.held; past = l.past }
+note_done l (Withdraw n) rs = record { held = keep (λ h. not (is_of n h)) l.held; past = keep (is_of n) l.held ++ l.past }
+note_done l (Beacon ws) rs =
     let hs = map (grown rs) l.held in
     record { held = keep lasts hs; past = keep (λ h. not (lasts h)) hs ++ l.past }
 
 -- a refused call does nothing
 unfoldable pub note : Ledger → Seen → Ledger
-note l v = cond (eqb v.answer 0) (noteDone l v.call v.plan) l
+note l v = cond (eqb v.answer 0) (note_done l v.call v.plan) l
 
-unfoldable pub noteAll : Ledger → List Seen → Ledger
-noteAll l [] = l
-noteAll l (v ∷ vs) = noteAll (note l v) vs
+unfoldable pub note_all : Ledger → List Seen → Ledger
+note_all l [] = l
+note_all l (v ∷ vs) = note_all (note l v) vs
 
-abbrev pub noAdmission : Ledger
-noAdmission = record { held = []; past = [] }
+abbrev pub no_admission : Ledger
+no_admission = record { held = []; past = [] }
 
-abbrev pub ledgerOf : List Seen → Ledger
-ledgerOf vs = noteAll noAdmission vs
+abbrev pub ledger_of : List Seen → Ledger
+ledger_of vs = note_all no_admission vs

@@ -6,8 +6,8 @@ abbrev pub within : ℕ → ℕ → ℕ → Bool
 within a b x = leb a x && leb x b
 
 -- 1 where the test passes, to count by a sum
-abbrev pub one-if : Bool → ℕ
-one-if b = cond b 1 0
+abbrev pub one_if : Bool → ℕ
+one_if b = cond b 1 0
 
 -- c s + .. + c (d-1), and 0 where d ≤ s
 abbrev pub span : (ℕ → ℕ) → ℕ → ℕ → ℕ
@@ -24,14 +24,14 @@ same_list (x ∷ xs) [] = false
 same_list (x ∷ xs) (y ∷ ys) = eqb x y && same_list xs ys
 
 module _ {A : Type 0} where
-  abbrev pub cons-if : Bool → A → List A → List A
-  cons-if true x xs = x ∷ xs
-  cons-if false x xs = xs
+  abbrev pub cons_if : Bool → A → List A → List A
+  cons_if true x xs = x ∷ xs
+  cons_if false x xs = xs
 
   -- those that pass the test, in order
   abbrev pub keep : (A → Bool) → List A → List A
   keep p [] = []
-  keep p (x ∷ xs) = cons-if (p x) x (keep p xs)
+  keep p (x ∷ xs) = cons_if (p x) x (keep p xs)
 
   abbrev pub sum_of : (A → ℕ) → List A → ℕ
   sum_of f [] = 0
@@ -55,6 +55,6 @@ module _ {A : Type 0} where
   sort before (x ∷ xs) = insert before x (sort before xs)
 
   -- the lists that f gives, one after the other
-  abbrev pub concatMap : {B : Type 0} → (A → List B) → List A → List B
-  concatMap f [] = []
-  concatMap f (x ∷ xs) = f x ++ concatMap f xs
+  abbrev pub concat_map : {B : Type 0} → (A → List B) → List A → List B
+  concat_map f [] = []
+  concat_map f (x ∷ xs) = f x ++ concat_map f xs

@@ -1,8 +1,8 @@
 -- What the code of this crate answers, in the document's numbers; and the fields that an entry was offered with. Document 01, "Where
 -- each refusal is checked". Assumes nothing.
 use Rattle.std.specs.Prelude.{ℕ, cond}
-use Rattle.spec_model.specs.Requests.{refusal, fieldChecks}
-use Rattle.spec_model.specs.Entries.{isKind}
+use Rattle.spec_model.specs.Requests.{refusal, field_checks}
+use Rattle.spec_model.specs.Entries.{is_kind}
 use Rattle.spec_model.specs.declared.Entry.{Entry}
 use Rattle.spec_model.specs.declared.Frame.{Frame}
 use Rattle.spec_model.specs.declared.Request.{Request}
@@ -11,28 +11,28 @@ use Rattle.spec_model.specs.declared.OfferAnswer.TheVariants.{Accepted, StreamOu
 use Rattle.spec_model.specs.declared.OfferAnswer.TheVariants.{PeriodOutside, AmountsOutside, LifeOutside, TableFull, NoTime}
 
 -- the numbers of an offer's answers
-abbrev pub offerNumber : OfferAnswer → ℕ
-offerNumber Accepted = 0
-offerNumber StreamOutside = 10
-offerNumber StreamHeld = 11
-offerNumber KindUnknown = 12
-offerNumber PeriodOutside = 13
-offerNumber AmountsOutside = 14
-offerNumber LifeOutside = 15
-offerNumber TableFull = 16
-offerNumber NoTime = 17
+abbrev pub offer_number : OfferAnswer → ℕ
+offer_number Accepted = 0
+offer_number StreamOutside = 10
+offer_number StreamHeld = 11
+offer_number KindUnknown = 12
+offer_number PeriodOutside = 13
+offer_number AmountsOutside = 14
+offer_number LifeOutside = 15
+offer_number TableFull = 16
+offer_number NoTime = 17
 
 -- refusals 12 to 15 of an offer, or 0
-unfoldable pub fieldsAnswer : Frame → Request → ℕ
-fieldsAnswer F q = refusal (fieldChecks F q)
+unfoldable pub fields_answer : Frame → Request → ℕ
+fields_answer F q = refusal (field_checks F q)
 
 -- the fields that were offered
-unfoldable pub requestOf : Entry → Request
-requestOf e =
+unfoldable pub request_of : Entry → Request
+request_of e =
     record {
       name = e.name;
       kind = e.kind;
-      period = cond (isKind 1 e) e.parts e.period.0;
+      period = cond (is_kind 1 e) e.parts e.period.0;
       min = e.min.0;
       max = e.max.0;
       life = e.life.0;

@@ -1,13 +1,13 @@
 -- An entry of the table: free, and as accepted. Document 01, "Units and one request". Assumes nothing.
 use Rattle.std.specs.Prelude.{ℕ, Bool, cond, not, ◌||◌, eqb}
-use Rattle.spec_model.specs.Names.{same, nobody, isNobody}
+use Rattle.spec_model.specs.Names.{same, nobody, is_nobody}
 use Rattle.spec_model.specs.declared.Name.{Name}
 use Rattle.spec_model.specs.declared.Entry.{Entry}
 use Rattle.spec_model.specs.declared.Request.{Request}
 
 -- a free place is all zero
-abbrev pub freeEntry : Entry
-freeEntry = record {
+abbrev pub free_entry : Entry
+free_entry = record {
   name = nobody;
   kind = 0;
   parts = 0;
@@ -22,17 +22,17 @@ freeEntry = record {
 }
 
 abbrev pub is_held : Entry → Bool
-is_held e = not (isNobody e.name)
+is_held e = not (is_nobody e.name)
 
-abbrev pub isNamed : Name → Entry → Bool
-isNamed n e = same e.name n
+abbrev pub is_named : Name → Entry → Bool
+is_named n e = same e.name n
 
-abbrev pub isKind : ℕ → Entry → Bool
-isKind k e = eqb e.kind k
+abbrev pub is_kind : ℕ → Entry → Bool
+is_kind k e = eqb e.kind k
 
 -- kinds 2 and 3, which are served in pieces, one an interval
-abbrev pub isPiece : Entry → Bool
-isPiece e = isKind 2 e || isKind 3 e
+abbrev pub is_piece : Entry → Bool
+is_piece e = is_kind 2 e || is_kind 3 e
 
 -- what each of its periods asks: the minimum, of a transfer its amount
 abbrev pub asks : Entry → ℕ

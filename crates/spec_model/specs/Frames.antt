@@ -4,17 +4,17 @@ use Rattle.std.specs.Prelude.{ℕ, ◌-◌, ◌/◌}
 use Rattle.spec_model.specs.declared.Frame.{Frame}
 
 -- the slots of an interval, B
-abbrev pub slotsIn : Frame → ℕ
-slotsIn F = F.slots.0
+abbrev pub slots_in : Frame → ℕ
+slots_in F = F.slots.0
 
 -- those of its header, h: slots 0 to h-1
-abbrev pub headerIn : Frame → ℕ
-headerIn F = F.header.0
+abbrev pub header_in : Frame → ℕ
+header_in F = F.header.0
 
 -- those that a plan may give
-unfoldable pub roomIn : Frame → ℕ
-roomIn F = slotsIn F - headerIn F
+unfoldable pub room_in : Frame → ℕ
+room_in F = slots_in F - header_in F
 
 -- the slots of a period of kind 1, B/m
 abbrev pub part_of : Frame → (m : ℕ) → ℕ
-part_of F m = slotsIn F / m
+part_of F m = slots_in F / m

@@ -7,22 +7,22 @@ use Rattle.spec_model.specs.declared.HeldAnswer.TheVariants.{Held, NotHeld}
 use Rattle.spec_model.specs.declared.BeaconAnswer.{BeaconAnswer}
 use Rattle.spec_model.specs.declared.BeaconAnswer.TheVariants.{Planned, PlanTooShort}
 
-abbrev pub openNumber : OpenAnswer → ℕ
-openNumber Opened = 0
-openNumber UnitsOutside = 1
-openNumber HeaderOutside = 61
+abbrev pub open_number : OpenAnswer → ℕ
+open_number Opened = 0
+open_number UnitsOutside = 1
+open_number HeaderOutside = 61
 
-abbrev pub heldNumber : HeldAnswer → ℕ
-heldNumber Held = 0
-heldNumber NotHeld = 20
+abbrev pub held_number : HeldAnswer → ℕ
+held_number Held = 0
+held_number NotHeld = 20
 
-abbrev pub beaconNumber : BeaconAnswer → ℕ
-beaconNumber Planned = 0
-beaconNumber PlanTooShort = 30
+abbrev pub beacon_number : BeaconAnswer → ℕ
+beacon_number Planned = 0
+beacon_number PlanTooShort = 30
 
 -- the program's own: a row of another form, and a call where there is no table
-abbrev pub otherFormNumber : ℕ
-otherFormNumber = 50
+abbrev pub other_form_number : ℕ
+other_form_number = 50
 
-abbrev pub noTableNumber : ℕ
-noTableNumber = 51
+abbrev pub no_table_number : ℕ
+no_table_number = 51

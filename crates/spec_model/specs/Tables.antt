@@ -2,7 +2,7 @@
 -- entries, and one with an entry put at a place. Assumes nothing.
 use Rattle.std.specs.Prelude.{ℕ, List, set, replicate}
 use Rattle.spec_lists.specs.Lists.{keep}
-use Rattle.spec_model.specs.Entries.{freeEntry, is_held}
+use Rattle.spec_model.specs.Entries.{free_entry, is_held}
 use Rattle.spec_model.specs.ByNumbers.{interval}
 use Rattle.spec_model.specs.declared.Frame.{Frame}
 use Rattle.spec_model.specs.declared.Entry.{Entry}
@@ -12,27 +12,27 @@ use Rattle.spec_model.specs.declared.Table.{Table}
 abbrev pub places : ℕ
 places = 32
 
-abbrev pub mostHeld : ℕ
-mostHeld = places
+abbrev pub most_held : ℕ
+most_held = places
 
-abbrev pub noPlace : ℕ
-noPlace = places
+abbrev pub no_place : ℕ
+no_place = places
 
 -- a table that holds nothing
-abbrev pub noneHeld : Frame → Table
-noneHeld F = record { frame = F; entries = replicate places freeEntry }
+abbrev pub none_held : Frame → Table
+none_held F = record { frame = F; entries = replicate places free_entry }
 
-abbrev pub noTable : Table
-noTable = noneHeld (interval 0)
+abbrev pub no_table : Table
+no_table = none_held (interval 0)
 
 -- what a table holds
 abbrev pub held_of : Table → List Entry
 held_of t = keep is_held t.entries
 
 -- a table with other entries
-abbrev pub withEntries : Table → List Entry → Table
-withEntries t ps = record { frame = t.frame; entries = ps }
+abbrev pub with_entries : Table → List Entry → Table
+with_entries t ps = record { frame = t.frame; entries = ps }
 
 -- one entry, at a place; past the last place nothing changes
-abbrev pub putIn : Table → ℕ → Entry → Table
-putIn t p e = withEntries t (set t.entries p e)
+abbrev pub put_in : Table → ℕ → Entry → Table
+put_in t p e = with_entries t (set t.entries p e)

@@ -1,11 +1,11 @@
 // Units, an offer's fields as they came, and the table that holds requests. Document 01, "Units and one request"; document 02,
 // No. 1.
 ghost use Rattle.std.specs.Prelude.{◌≡◌, ◌≤◌};
-ghost use Rattle.spec_model.specs.Answers.{offerNumber};
-ghost use Rattle.spec_model.specs.Entries.{freeEntry};
-ghost use Rattle.spec_model.specs.Frames.{roomIn};
-ghost use Rattle.spec_model.specs.Names.{same, isNobody, nameInRange, nameRank, nameTop};
-ghost use Rattle.spec_model.specs.Requests.{refusal, inOrder, rangeChecks};
+ghost use Rattle.spec_model.specs.Answers.{offer_number};
+ghost use Rattle.spec_model.specs.Entries.{free_entry};
+ghost use Rattle.spec_model.specs.Frames.{room_in};
+ghost use Rattle.spec_model.specs.Names.{same, is_nobody, name_in_range, name_rank, name_top};
+ghost use Rattle.spec_model.specs.Requests.{refusal, in_order, range_checks};
 
 // Counts of slots and counts of beacon intervals are different units: no sum takes one of each.
 #[repr(C)]
@@ -48,7 +48,7 @@ pub struct Frame {
 }
 
 pub fn room_in(f: Frame) -> Slots
-    ensures { result.0 ≡ roomIn f }
+    ensures { result.0 ≡ room_in f }
 {
     Slots(base_numbers::less(f.slots.0, f.header.0))
 }
@@ -66,7 +66,7 @@ impl Name {
     pub const STREAM_LARGEST: u32 = 65535;
 
     pub fn in_range(self) -> bool
-        ensures { result ≡ nameInRange self }
+        ensures { result ≡ name_in_range self }
     {
         base_numbers::is_within(Self::STREAM_LEAST, Self::STREAM_LARGEST, self.stream)
     }
@@ -80,14 +80,14 @@ pub fn same(a: Name, b: Name) -> bool
 
 // The name of a free place.
 pub fn is_nobody(n: Name) -> bool
-    ensures { result ≡ isNobody n }
+    ensures { result ≡ is_nobody n }
 {
     n.stream == 0
 }
 
 // The lower of two names in range has the lower number; of any name it leaves room in 64 bits.
 pub fn name_rank(name: Name) -> u64
-    ensures { (result ≡ nameRank name) × (result ≤ nameTop) }
+    ensures { (result ≡ name_rank name) × (result ≤ name_top) }
 {
     name.stream as u64
 }
@@ -144,7 +144,7 @@ pub struct Request {
 // ---- what every kind checks
 // A minimum of at least the lowest, and a maximum from there to the largest.
 pub fn amounts_in_order(lowest: u32, min: Slots, max: Slots, largest: u64) -> bool
-    ensures { result ≡ inOrder lowest min.0 max.0 largest }
+    ensures { result ≡ in_order lowest min.0 max.0 largest }
 {
     let least = min.0;
     let most = max.0;
@@ -159,7 +159,7 @@ pub fn amounts_in_order(lowest: u32, min: Slots, max: Slots, largest: u64) -> bo
 
 // The first of three ranges that a field is outside of.
 pub fn first_outside(period: bool, amounts: bool, life: bool) -> OfferAnswer
-    ensures { offerNumber result ≡ refusal (rangeChecks period amounts life) }
+    ensures { offer_number result ≡ refusal (range_checks period amounts life) }
 {
     if !period {
         return OfferAnswer::PeriodOutside;
@@ -202,7 +202,7 @@ pub struct Table {
 }
 
 pub fn free_entry() -> Entry
-    ensures { result ≡ freeEntry }
+    ensures { result ≡ free_entry }
 {
     Entry {
         name: Name { stream: 0 },

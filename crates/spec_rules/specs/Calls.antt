@@ -2,31 +2,31 @@
 -- "Reading, lending, printing". Assumes nothing.
 use Rattle.std.specs.Prelude.{ℕ, ◌*◌, Bool, cond, not, List, [], ◌∷◌, ◌++◌, map, ltb, leb, eqb, length, drop}
 use Rattle.spec_lists.specs.Lists.{any_of}
-use Rattle.spec_model.specs.Names.{nameInRange}
-use Rattle.spec_model.specs.Requests.{check, refusal, fieldChecks}
-use Rattle.spec_model.specs.Entries.{freeEntry, is_held, isNamed, entry_of}
+use Rattle.spec_model.specs.Names.{name_in_range}
+use Rattle.spec_model.specs.Requests.{check, refusal, field_checks}
+use Rattle.spec_model.specs.Entries.{free_entry, is_held, is_named, entry_of}
 use Rattle.spec_model.specs.declared.Name.{Name}
 use Rattle.spec_model.specs.declared.Entry.{Entry}
 use Rattle.spec_model.specs.declared.Request.{Request}
 use Rattle.spec_model.specs.declared.Table.{Table}
-use Rattle.spec_rules.specs.Share.{stepB, stepC}
-use Rattle.spec_rules.specs.Slots.{Run, stepE}
-use Rattle.spec_rules.specs.Ahead.{stepF, fitsAhead}
-use Rattle.spec_model.specs.Tables.{mostHeld, held_of, withEntries}
-use Rattle.spec_rules.specs.Records.{recordWords, planWords, words_of}
+use Rattle.spec_rules.specs.Share.{step_b, step_c}
+use Rattle.spec_rules.specs.Slots.{Run, step_e}
+use Rattle.spec_rules.specs.Ahead.{step_f, fits_ahead}
+use Rattle.spec_model.specs.Tables.{most_held, held_of, with_entries}
+use Rattle.spec_rules.specs.Records.{record_words, plan_words, words_of}
 
 abbrev pub holds : Table → Name → Bool
-holds t n = any_of (isNamed n) (held_of t)
+holds t n = any_of (is_named n) (held_of t)
 
 -- an offer's answer
-unfoldable pub offerAnswer : Table → Request → ℕ
-offerAnswer t q =
+unfoldable pub offer_answer : Table → Request → ℕ
+offer_answer t q =
     refusal
-    (check 10 (not (nameInRange q.name))
+    (check 10 (not (name_in_range q.name))
     ∷ check 11 (holds t q.name)
-    ∷ (fieldChecks t.frame q
-    ++ (check 16 (leb mostHeld (length (held_of t)))
-    ∷ check 17 (not (fitsAhead t.frame (entry_of q ∷ held_of t)))
+    ∷ (field_checks t.frame q
+    ++ (check 16 (leb most_held (length (held_of t)))
+    ∷ check 17 (not (fits_ahead t.frame (entry_of q ∷ held_of t)))
     ∷ [])))
 
 -- the entry goes to the first free place
@@ -36,27 +36,27 @@ placed e (f ∷ fs) = let r = placed e fs in cond (is_held f) (f ∷ r) (e ∷ f
 
 unfoldable pub offered : Table → Request → Table
 offered t q =
-    cond (eqb (offerAnswer t q) 0) (withEntries t (placed (entry_of q) t.entries)) t
+    cond (eqb (offer_answer t q) 0) (with_entries t (placed (entry_of q) t.entries)) t
 
 -- a withdrawal's and an enquiry's
-unfoldable pub heldAnswer : Table → Name → ℕ
-heldAnswer t n = refusal (check 20 (not (holds t n)) ∷ [])
+unfoldable pub held_answer : Table → Name → ℕ
+held_answer t n = refusal (check 20 (not (holds t n)) ∷ [])
 
 -- the place becomes free
 abbrev pub freed : Name → List Entry → List Entry
-freed n es = map (λ (e : Entry). cond (isNamed n e) freeEntry e) es
+freed n es = map (λ (e : Entry). cond (is_named n e) free_entry e) es
 
 unfoldable pub withdrawn : Table → Name → Table
-withdrawn t n = cond (holds t n) (withEntries t (freed n t.entries)) t
+withdrawn t n = cond (holds t n) (with_entries t (freed n t.entries)) t
 
 -- the plan, and the table after the interval
 unfoldable pub plan_of : Table → List Run
-plan_of t = stepE t.frame (held_of t)
+plan_of t = step_e t.frame (held_of t)
 
 unfoldable pub advanced : Table → Table
 advanced t =
     let es = held_of t in
-    withEntries t (stepF (stepB t.frame es) (stepC t.frame es) t.entries)
+    with_entries t (step_f (step_b t.frame es) (step_c t.frame es) t.entries)
 
 -- the answer, the record count, the words lent and the table after it
 pub record Beacon : Type 0 where
@@ -66,13 +66,13 @@ pub record Beacon : Type 0 where
   pub table : Table
 
 -- everything as found
-abbrev pub refusedBeacon : Table → List ℕ → Beacon
-refusedBeacon t ws = record { answer = 30; count = 0; words = ws; table = t }
+abbrev pub refused_beacon : Table → List ℕ → Beacon
+refused_beacon t ws = record { answer = 30; count = 0; words = ws; table = t }
 
 -- the plan in the first words, every later word as found
-abbrev pub plannedBeacon : Table → List ℕ → List Run → Beacon
-plannedBeacon t ws rs =
-    record { answer = 0; count = length rs; words = words_of rs ++ drop (recordWords * length rs) ws; table = advanced t }
+abbrev pub planned_beacon : Table → List ℕ → List Run → Beacon
+planned_beacon t ws rs =
+    record { answer = 0; count = length rs; words = words_of rs ++ drop (record_words * length rs) ws; table = advanced t }
 
 unfoldable pub beacon : Table → List ℕ → Beacon
-beacon t ws = cond (ltb (length ws) planWords) (refusedBeacon t ws) (plannedBeacon t ws (plan_of t))
+beacon t ws = cond (ltb (length ws) plan_words) (refused_beacon t ws) (planned_beacon t ws (plan_of t))

@@ -2,21 +2,21 @@
 -- a field open, docs/DECISIONS.md says what was chosen. Assumes nothing.
 use Rattle.std.specs.Prelude.{ℕ, ◌*◌, ◌≡◌, refl, Bool, true, ◌&&◌, List, [], ◌∷◌, ◌++◌, eqb, take, replicate}
 use Rattle.spec_lists.specs.Lists.{same_list}
-use Rattle.spec_model.specs.Requests.{refusal, fieldChecks}
-use Rattle.spec_model.specs.Frames.{roomIn}
-use Rattle.spec_model.specs.Names.{same, lower, nameInRange}
+use Rattle.spec_model.specs.Requests.{refusal, field_checks}
+use Rattle.spec_model.specs.Frames.{room_in}
+use Rattle.spec_model.specs.Names.{same, lower, name_in_range}
 use Rattle.spec_model.specs.ByNumbers.{stream, setting, request}
 use Rattle.spec_model.specs.Entries.{entry_of}
 use Rattle.spec_model.specs.declared.Table.{Table}
-use Rattle.spec_rules.specs.Share.{Grant, load_of, load, slotsFor, order, take-turns, stepB, remains, weight, extra, shareAmong, extrasPass, takesPart, stepC}
-use Rattle.spec_rules.specs.Header.{endsOf, dueBy, headerTest}
-use Rattle.spec_rules.specs.Slots.{jobsFrom, tieOrder, jobs, choose, slotsFrom, stepD, prepend, runsFrom, stepE}
-use Rattle.spec_rules.specs.Ahead.{passed, renewed, settled, stepF, goesWell, fitsAhead}
+use Rattle.spec_rules.specs.Share.{Grant, load_of, load, slots_for, order, take_turns, step_b, remains, weight, extra, share_among, extras_pass, takes_part, step_c}
+use Rattle.spec_rules.specs.Header.{ends_of, due_by, header_test}
+use Rattle.spec_rules.specs.Slots.{jobs_from, tie_order, jobs, choose, slots_from, step_d, prepend, runs_from, step_e}
+use Rattle.spec_rules.specs.Ahead.{passed, renewed, settled, step_f, goes_well, fits_ahead}
 use Rattle.spec_model.specs.Tables.{held_of}
-use Rattle.spec_rules.specs.Settings.{openAnswer, frame_of, opened}
-use Rattle.spec_rules.specs.Records.{recordWords, planWords, wordsOfRun, recordAt, words_of, recordsOf}
-use Rattle.spec_rules.specs.Calls.{offerAnswer, placed, offered, heldAnswer, withdrawn, plan_of, advanced, Beacon, beacon}
-use Rattle.spec_rules.specs.Reading.{startsOf, rises, before, windowAnswer, windowPart}
+use Rattle.spec_rules.specs.Settings.{open_answer, frame_of, opened}
+use Rattle.spec_rules.specs.Records.{record_words, plan_words, words_of_run, record_at, words_of, records_of}
+use Rattle.spec_rules.specs.Calls.{offer_answer, placed, offered, held_answer, withdrawn, plan_of, advanced, Beacon, beacon}
+use Rattle.spec_rules.specs.Reading.{starts_of, rises, before, window_answer, window_part}
 
 -- a call, or a look at the figures of the next step C: L, W, then each request's stream and extra
 pub data Ask : Type 0 where
@@ -46,28 +46,28 @@ abbrev numbers : List Grant → List ℕ
 numbers [] = []
 numbers (g ∷ gs) = g.name.stream ∷ g.slots ∷ numbers gs
 
-abbrev afterTick : Beacon → Reply
-afterTick b =
+abbrev after_tick : Beacon → Reply
+after_tick b =
     record {
       answer = b.answer;
-      shown = take (recordWords * b.count) b.words;
+      shown = take (record_words * b.count) b.words;
       next = record { table = b.table; words = b.words; count = b.count };
     }
 
 abbrev pub reply : State → Ask → Reply
-reply s (Open u h) = record { answer = openAnswer (setting u h); shown = []; next = on s (opened (setting u h)) }
+reply s (Open u h) = record { answer = open_answer (setting u h); shown = []; next = on s (opened (setting u h)) }
 reply s (Offer i k p a b l) =
     let q = request i k p a b l in
-    record { answer = offerAnswer s.table q; shown = []; next = on s (offered s.table q) }
+    record { answer = offer_answer s.table q; shown = []; next = on s (offered s.table q) }
 reply s (Withdraw i) =
-    record { answer = heldAnswer s.table (stream i); shown = []; next = on s (withdrawn s.table (stream i)) }
-reply s Tick = afterTick (beacon s.table s.words)
+    record { answer = held_answer s.table (stream i); shown = []; next = on s (withdrawn s.table (stream i)) }
+reply s Tick = after_tick (beacon s.table s.words)
 reply s Figures =
     let F = s.table.frame in
     let es = held_of s.table in
-    record { answer = 0; shown = remains F es ∷ weight (takesPart F es) (stepB F es) es ∷ numbers (stepC F es); next = s }
+    record { answer = 0; shown = remains F es ∷ weight (takes_part F es) (step_b F es) es ∷ numbers (step_c F es); next = s }
 reply s (Window f u) =
-    record { answer = windowAnswer s.words s.count f u; shown = windowPart s.words s.count f u; next = s }
+    record { answer = window_answer s.words s.count f u; shown = window_part s.words s.count f u; next = s }
 
 -- an ask with the answer and the numbers that the document gives
 pub record Line : Type 0 where
@@ -144,8 +144,8 @@ case9 =
 
 -- ---- two that are ours and not the document's, whose cases say nothing of these orders
 -- jobs of kind 1 due at once: the lower stream number goes first, though it was offered later
-abbrev pub tiesOfKind1 : List Line
-tiesOfKind1 =
+abbrev pub ties_of_kind1 : List Line
+ties_of_kind1 =
     answers (Open 1 0) 0
     ∷ answers (Offer 8 1 2 200 200 1) 0
     ∷ answers (Offer 6 1 2 100 100 1) 0
@@ -153,8 +153,8 @@ tiesOfKind1 =
     ∷ []
 
 -- as many intervals left, and an interval too short for both: kind 2 goes before 3, though the transfer has the lower stream number
-abbrev pub kind2First : List Line
-kind2First =
+abbrev pub kind2_first : List Line
+kind2_first =
     answers (Open 1 0) 0
     ∷ answers (Offer 2 3 2 700 0 2) 0
     ∷ answers (Offer 4 2 2 800 800 2) 0
@@ -193,16 +193,16 @@ headed =
     ∷ []
 
 abbrev pub cases : List Line
-cases = case1 ++ cases23 ++ case4 ++ case5 ++ case6 ++ case7 ++ case8 ++ case9 ++ tiesOfKind1 ++ kind2First ++ headed
+cases = case1 ++ cases23 ++ case4 ++ case5 ++ case6 ++ case7 ++ case8 ++ case9 ++ ties_of_kind1 ++ kind2_first ++ headed
 
 abbrev pub start : State
-start = record { table = opened (setting 1 0); words = replicate planWords 0; count = 0 }
+start = record { table = opened (setting 1 0); words = replicate plan_words 0; count = 0 }
 
-pub cases-right : plays start cases ≡ true
-unfolding refusal fieldChecks entry_of roomIn same lower nameInRange
-    endsOf dueBy headerTest load_of load slotsFor order take-turns stepB remains weight extra shareAmong extrasPass stepC
-    jobsFrom tieOrder jobs choose slotsFrom stepD prepend runsFrom stepE
-    passed renewed settled stepF goesWell fitsAhead
-    openAnswer frame_of opened offerAnswer placed offered heldAnswer withdrawn wordsOfRun words_of recordAt recordsOf plan_of advanced beacon
-    startsOf rises before windowAnswer windowPart
-cases-right = refl
+pub cases_right : plays start cases ≡ true
+unfolding refusal field_checks entry_of room_in same lower name_in_range
+    ends_of due_by header_test load_of load slots_for order take_turns step_b remains weight extra share_among extras_pass step_c
+    jobs_from tie_order jobs choose slots_from step_d prepend runs_from step_e
+    passed renewed settled step_f goes_well fits_ahead
+    open_answer frame_of opened offer_answer placed offered held_answer withdrawn words_of_run words_of record_at records_of plan_of advanced beacon
+    starts_of rises before window_answer window_part
+cases_right = refl

@@ -7,18 +7,18 @@ use Rattle.spec_model.specs.declared.Setting.{Setting}
 use Rattle.spec_model.specs.declared.Frame.{Frame}
 use Rattle.spec_model.specs.declared.Table.{Table}
 use Rattle.spec_model.specs.ByNumbers.{framed}
-use Rattle.spec_model.specs.Tables.{noneHeld}
+use Rattle.spec_model.specs.Tables.{none_held}
 
 -- the slots of a time unit
-abbrev pub unitSlots : ℕ
-unitSlots = 1024
+abbrev pub unit_slots : ℕ
+unit_slots = 1024
 
 -- B, for so many time units
 abbrev pub slots_of : Setting → ℕ
-slots_of s = unitSlots * s.units
+slots_of s = unit_slots * s.units
 
-unfoldable pub openAnswer : Setting → ℕ
-openAnswer s =
+unfoldable pub open_answer : Setting → ℕ
+open_answer s =
     refusal
     (check 1 (not (within 1 1000 s.units))
     ∷ check 61 (not (ltb s.header (slots_of s)))
@@ -26,10 +26,10 @@ openAnswer s =
 
 -- a successful opening
 abbrev pub Succeeds : Setting → Type 0
-Succeeds s = openAnswer s ≡ 0
+Succeeds s = open_answer s ≡ 0
 
 unfoldable pub frame_of : Setting → Frame
 frame_of s = framed (slots_of s) s.header
 
 unfoldable pub opened : Setting → Table
-opened s = noneHeld (frame_of s)
+opened s = none_held (frame_of s)

@@ -9,17 +9,17 @@ digit d = 48 + d
 
 -- the digits of n, or the last k where it has more: a number below ten is its only digit; otherwise what remains of a division by ten
 -- stands behind the digits of the quotient
-unfoldable pub digitsOf : ℕ → ℕ → List ℕ
-digitsOf zero n = []
-digitsOf (suc k) n = let more = digitsOf k (n / 10) ++ digit (n % 10) ∷ [] in cond (ltb n 10) (digit n ∷ []) more
+unfoldable pub digits_of : ℕ → ℕ → List ℕ
+digits_of zero n = []
+digits_of (suc k) n = let more = digits_of k (n / 10) ++ digit (n % 10) ∷ [] in cond (ltb n 10) (digit n ∷ []) more
 
 -- room for a number: none of 32 bits has more digits than ten
-abbrev pub numberMost : ℕ
-numberMost = 10
+abbrev pub number_most : ℕ
+number_most = 10
 
 -- a number as it is printed
 unfoldable pub decimal : ℕ → List ℕ
-decimal n = digitsOf numberMost n
+decimal n = digits_of number_most n
 
 -- ---- lent memory: some bytes stand in it from a place on, and every other byte is as it was
 unfoldable pub written : List ℕ → ℕ → List ℕ → List ℕ

@@ -1,65 +1,65 @@
 -- What the program does: the rows that it prints for each row that it reads, and the table between two rows. Document 01, "Reading,
 -- lending, printing", and refusals 50 and 51 of "Where each refusal is checked". Assumes nothing.
 use Rattle.std.specs.Prelude.{ℕ, true, false, cond, List, [], ◌∷◌, ◌++◌, map, eqb}
-use Rattle.spec_lists.specs.Lists.{concatMap}
+use Rattle.spec_lists.specs.Lists.{concat_map}
 use Rattle.spec_model.specs.declared.Table.{Table}
-use Rattle.spec_rules.specs.Settings.{openAnswer, opened}
-use Rattle.spec_rules.specs.Calls.{offerAnswer, offered, heldAnswer, withdrawn, plan_of, advanced, beacon}
-use Rattle.spec_model.specs.Numbers.{otherFormNumber, noTableNumber}
-use Rattle.spec_model.specs.Tables.{noTable}
+use Rattle.spec_rules.specs.Settings.{open_answer, opened}
+use Rattle.spec_rules.specs.Calls.{offer_answer, offered, held_answer, withdrawn, plan_of, advanced, beacon}
+use Rattle.spec_model.specs.Numbers.{other_form_number, no_table_number}
+use Rattle.spec_model.specs.Tables.{no_table}
 use Rattle.spec_text.specs.Rows.{rows_of}
-use Rattle.spec_shelf.specs.Commands.{openVerb, offerVerb, withdrawVerb, beaconVerb, commandOf}
+use Rattle.spec_shelf.specs.Commands.{open_verb, offer_verb, withdraw_verb, beacon_verb, command_of}
 use Rattle.spec_shelf.specs.declared.Command.{Command}
 use Rattle.spec_shelf.specs.declared.Command.TheVariants.{Open, Offer, Withdraw, Beacon, OtherForm}
-use Rattle.spec_shelf.specs.Printed.{headerRow, plainRow, streamRow, slotRowOf}
+use Rattle.spec_shelf.specs.Printed.{header_row, plain_row, stream_row, slot_row_of}
 use Rattle.spec_shelf.specs.declared.State.{State}
 
 -- before a successful `open` there is no table
-unfoldable pub firstState : State
-firstState = record { ready = false; table = noTable }
+unfoldable pub first_state : State
+first_state = record { ready = false; table = no_table }
 
-abbrev pub withTable : Table → State
-withTable t = record { ready = true; table = t }
+abbrev pub with_table : Table → State
+with_table t = record { ready = true; table = t }
 
 -- 51 for every call but `open` where there is no table
-abbrev pub answerWith : State → ℕ → ℕ
-answerWith s a = cond s.ready a noTableNumber
+abbrev pub answer_with : State → ℕ → ℕ
+answer_with s a = cond s.ready a no_table_number
 
 -- ---- the state after a row
 -- a later `open` replaces the table if it succeeds
-unfoldable pub stateAfter : State → Command → State
-stateAfter s (Open o) = cond (eqb (openAnswer o) 0) (withTable (opened o)) s
-stateAfter s (Offer q) = cond s.ready (withTable (offered s.table q)) s
-stateAfter s (Withdraw n) = cond s.ready (withTable (withdrawn s.table n)) s
-stateAfter s Beacon = cond s.ready (withTable (advanced s.table)) s
-stateAfter s OtherForm = s
+unfoldable pub state_after : State → Command → State
+state_after s (Open o) = cond (eqb (open_answer o) 0) (with_table (opened o)) s
+state_after s (Offer q) = cond s.ready (with_table (offered s.table q)) s
+state_after s (Withdraw n) = cond s.ready (with_table (withdrawn s.table n)) s
+state_after s Beacon = cond s.ready (with_table (advanced s.table)) s
+state_after s OtherForm = s
 
 -- the plan's memory after it
-unfoldable pub planAfter : State → Command → List ℕ → List ℕ
-planAfter s (Open o) ws = ws
-planAfter s (Offer q) ws = ws
-planAfter s (Withdraw n) ws = ws
-planAfter s Beacon ws = cond s.ready (beacon s.table ws).words ws
-planAfter s OtherForm ws = ws
+unfoldable pub plan_after : State → Command → List ℕ → List ℕ
+plan_after s (Open o) ws = ws
+plan_after s (Offer q) ws = ws
+plan_after s (Withdraw n) ws = ws
+plan_after s Beacon ws = cond s.ready (beacon s.table ws).words ws
+plan_after s OtherForm ws = ws
 
 -- ---- the rows that are printed for it
-abbrev pub rowVerb : List ℕ
-rowVerb = 114 ∷ 111 ∷ 119 ∷ []
+abbrev pub row_verb : List ℕ
+row_verb = 114 ∷ 111 ∷ 119 ∷ []
 
-abbrev pub planRows : State → List ℕ
-planRows s = cond s.ready (concatMap slotRowOf (plan_of s.table)) []
+abbrev pub plan_rows : State → List ℕ
+plan_rows s = cond s.ready (concat_map slot_row_of (plan_of s.table)) []
 
-unfoldable pub rowsFor : State → Command → List ℕ
-rowsFor s (Open o) = plainRow openVerb (openAnswer o)
-rowsFor s (Offer q) = streamRow offerVerb q.name (answerWith s (offerAnswer s.table q))
-rowsFor s (Withdraw n) = streamRow withdrawVerb n (answerWith s (heldAnswer s.table n))
-rowsFor s Beacon = plainRow beaconVerb (answerWith s 0) ++ planRows s
-rowsFor s OtherForm = plainRow rowVerb otherFormNumber
+unfoldable pub rows_for : State → Command → List ℕ
+rows_for s (Open o) = plain_row open_verb (open_answer o)
+rows_for s (Offer q) = stream_row offer_verb q.name (answer_with s (offer_answer s.table q))
+rows_for s (Withdraw n) = stream_row withdraw_verb n (answer_with s (held_answer s.table n))
+rows_for s Beacon = plain_row beacon_verb (answer_with s 0) ++ plan_rows s
+rows_for s OtherForm = plain_row row_verb other_form_number
 
 -- ---- the whole output
 unfoldable pub printed : State → List Command → List ℕ
 printed s [] = []
-printed s (c ∷ cs) = rowsFor s c ++ printed (stateAfter s c) cs
+printed s (c ∷ cs) = rows_for s c ++ printed (state_after s c) cs
 
-unfoldable pub outputOf : List ℕ → List ℕ
-outputOf input = headerRow ++ printed firstState (map commandOf (rows_of input))
+unfoldable pub output_of : List ℕ → List ℕ
+output_of input = header_row ++ printed first_state (map command_of (rows_of input))

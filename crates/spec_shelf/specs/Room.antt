@@ -1,17 +1,17 @@
 -- What the program lends to an answer, and what holds of its table. Assumes nothing.
 use Rattle.std.specs.Prelude.{ℕ, ◌+◌, ◌*◌, ◌≡◌, Bool, true}
 use Rattle.spec_model.specs.declared.Table.{Table}
-use Rattle.spec_rules.specs.Records.{mostRecords}
+use Rattle.spec_rules.specs.Records.{most_records}
 use Rattle.spec_rules.specs.WellFormed.{WellFormed}
-use Rattle.spec_shelf.specs.Printed.{slotRowMost}
+use Rattle.spec_shelf.specs.Printed.{slot_row_most}
 use Rattle.spec_shelf.specs.declared.State.{State}
 
 -- the bytes kept for the row of a call, more than it needs; and the most bytes of an answer: that row, and those of the longest plan
-abbrev pub callRoom : ℕ
-callRoom = 1024
+abbrev pub call_room : ℕ
+call_room = 1024
 
-abbrev pub answerMost : ℕ
-answerMost = callRoom + slotRowMost * mostRecords
+abbrev pub answer_most : ℕ
+answer_most = call_room + slot_row_most * most_records
 
 abbrev pub state_of : Bool → Table → State
 state_of ready t = record { ready = ready; table = t }

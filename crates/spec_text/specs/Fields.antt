@@ -2,7 +2,7 @@
 -- field that is not needed is empty. Assumes nothing.
 use Rattle.std.specs.Prelude.{ℕ, ◌+◌, ◌*◌, ◌-◌, Bool, true, false, cond, ◌&&◌, ◌||◌, List, [], ◌∷◌, leb, eqb, length}
 use Rattle.spec_lists.specs.Lists.{within}
-use Rattle.spec_text.specs.Rows.{onFirst}
+use Rattle.spec_text.specs.Rows.{on_first}
 use Rattle.spec_text.specs.declared.Field.{Field}
 use Rattle.spec_text.specs.declared.Field.TheVariants.{Needed, MayBeEmpty, Empty}
 
@@ -12,12 +12,12 @@ comma = 44
 -- what stands before, between and after the commas
 unfoldable pub fields_of : List ℕ → List (List ℕ)
 fields_of [] = [] ∷ []
-fields_of (b ∷ bs) = let fs = fields_of bs in cond (eqb b comma) ([] ∷ fs) (onFirst b fs)
+fields_of (b ∷ bs) = let fs = fields_of bs in cond (eqb b comma) ([] ∷ fs) (on_first b fs)
 
 -- ---- numbers
-unfoldable pub allDigits : List ℕ → Bool
-allDigits [] = true
-allDigits (b ∷ bs) = within 48 57 b && allDigits bs
+unfoldable pub all_digits : List ℕ → Bool
+all_digits [] = true
+all_digits (b ∷ bs) = within 48 57 b && all_digits bs
 
 -- the number that digits go on to spell after v
 unfoldable pub spelt : ℕ → List ℕ → ℕ
@@ -28,7 +28,7 @@ abbrev pub value_of : List ℕ → ℕ
 value_of f = spelt 0 f
 
 unfoldable pub is_number : List ℕ → Bool
-is_number f = within 1 10 (length f) && (allDigits f && leb (value_of f) 4294967295)
+is_number f = within 1 10 (length f) && (all_digits f && leb (value_of f) 4294967295)
 
 unfoldable pub is_empty : List ℕ → Bool
 is_empty [] = true
@@ -36,8 +36,8 @@ is_empty (b ∷ bs) = false
 
 -- ---- the fields after the verb
 -- how many there are
-abbrev pub fieldCount : ℕ
-fieldCount = 6
+abbrev pub field_count : ℕ
+field_count = 6
 
 -- a field is as it is asked for
 unfoldable pub fits : Field → List ℕ → Bool
@@ -46,23 +46,23 @@ fits (MayBeEmpty d) f = is_empty f || is_number f
 fits Empty f = is_empty f
 
 -- as many fields as a form has, each as the form asks for it
-unfoldable pub hasFields : List Field → List (List ℕ) → Bool
-hasFields [] [] = true
-hasFields [] (f ∷ fs) = false
-hasFields (k ∷ ks) [] = false
-hasFields (k ∷ ks) (f ∷ fs) = fits k f && hasFields ks fs
+unfoldable pub has_fields : List Field → List (List ℕ) → Bool
+has_fields [] [] = true
+has_fields [] (f ∷ fs) = false
+has_fields (k ∷ ks) [] = false
+has_fields (k ∷ ks) (f ∷ fs) = fits k f && has_fields ks fs
 
 -- the number of a field, where an empty one counts as d
-unfoldable pub numberOr : ℕ → List ℕ → ℕ
-numberOr d f = cond (is_empty f) d (value_of f)
+unfoldable pub number_or : ℕ → List ℕ → ℕ
+number_or d f = cond (is_empty f) d (value_of f)
 
 abbrev pub number_in : Field → List ℕ → ℕ
 number_in Needed f = value_of f
-number_in (MayBeEmpty d) f = numberOr d f
+number_in (MayBeEmpty d) f = number_or d f
 number_in Empty f = 0
 
 -- the numbers of a row, field by field
-unfoldable pub numbersOf : List Field → List (List ℕ) → List ℕ
-numbersOf [] fs = []
-numbersOf (k ∷ ks) [] = []
-numbersOf (k ∷ ks) (f ∷ fs) = number_in k f ∷ numbersOf ks fs
+unfoldable pub numbers_of : List Field → List (List ℕ) → List ℕ
+numbers_of [] fs = []
+numbers_of (k ∷ ks) [] = []
+numbers_of (k ∷ ks) (f ∷ fs) = number_in k f ∷ numbers_of ks fs

@@ -9,19 +9,19 @@ abbrev pub cr : ℕ
 cr = 13
 
 -- the most bytes of a row before its CR LF
-abbrev pub rowMost : ℕ
-rowMost = 64
+abbrev pub row_most : ℕ
+row_most = 64
 
 -- the byte goes in front of the first part
-unfoldable pub onFirst : ℕ → List (List ℕ) → List (List ℕ)
-onFirst b [] = (b ∷ []) ∷ []
-onFirst b (r ∷ rs) = (b ∷ r) ∷ rs
+unfoldable pub on_first : ℕ → List (List ℕ) → List (List ℕ)
+on_first b [] = (b ∷ []) ∷ []
+on_first b (r ∷ rs) = (b ∷ r) ∷ rs
 
-abbrev pub isEnd : ℕ → ℕ → Bool
-isEnd b c = eqb b cr && eqb c lf
+abbrev pub is_end : ℕ → ℕ → Bool
+is_end b c = eqb b cr && eqb c lf
 
 -- the rows of an input, each without its CR LF
 unfoldable pub rows_of : List ℕ → List (List ℕ)
 rows_of [] = []
 rows_of (b ∷ []) = (b ∷ []) ∷ []
-rows_of (b ∷ c ∷ bs) = let rest = rows_of bs in let more = rows_of (c ∷ bs) in cond (isEnd b c) ([] ∷ rest) (onFirst b more)
+rows_of (b ∷ c ∷ bs) = let rest = rows_of bs in let more = rows_of (c ∷ bs) in cond (is_end b c) ([] ∷ rest) (on_first b more)

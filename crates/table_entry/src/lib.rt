@@ -1,18 +1,18 @@
 // Amounts of one entry of a table by document 01, "One beacon", steps A to C: its jobs, its load, its rank, what it is owed and what it
 // may still get.
 ghost use Rattle.std.specs.Prelude.{◌≡◌, ◌+◌, ◌*◌};
-ghost use Rattle.spec_model.specs.Entries.{isPiece};
-ghost use Rattle.spec_model.specs.Names.{nameRank, nameRoom};
-ghost use Rattle.spec_rules.specs.Share.{jobCount, load_of};
-ghost use Rattle.spec_rules.specs.Slots.{jobLength};
-ghost use Rattle.law_steps.specs.Ranks.{kindRoom};
-ghost use Rattle.table_entry.specs.Amounts.{owedTo, limitOf};
+ghost use Rattle.spec_model.specs.Entries.{is_piece};
+ghost use Rattle.spec_model.specs.Names.{name_rank, name_room};
+ghost use Rattle.spec_rules.specs.Share.{job_count, load_of};
+ghost use Rattle.spec_rules.specs.Slots.{job_length};
+ghost use Rattle.law_steps.specs.Ranks.{kind_room};
+ghost use Rattle.table_entry.specs.Amounts.{owed_to, limit_of};
 
 use spec_model::{Entry, Frame, Intervals, Name, Slots};
 
 // ---- the jobs of an entry in an interval: m for kind 1, one piece for the others
 pub fn job_count(e: Entry) -> u32
-    ensures { result ≡ jobCount e }
+    ensures { result ≡ job_count e }
 {
     let kind = e.kind;
     if kind == 1 {
@@ -22,7 +22,7 @@ pub fn job_count(e: Entry) -> u32
 }
 
 pub fn job_length(f: Frame, e: Entry) -> Slots
-    ensures { result.0 ≡ jobLength f e }
+    ensures { result.0 ≡ job_length f e }
 {
     let kind = e.kind;
     if kind == 1 {
@@ -47,7 +47,7 @@ pub fn load_of(e: Entry) -> u64
 
 // ---- B. kinds 2 and 3 take what they are owed
 pub fn is_piece(e: Entry) -> bool
-    ensures { result ≡ isPiece e }
+    ensures { result ≡ is_piece e }
 {
     let kind = e.kind;
     kind == 2 || kind == 3
@@ -61,14 +61,14 @@ pub const RANK_INTERVAL: u64 = KIND_ROOM * spec_model::NAME_ROOM;
 
 // Fewest intervals left, then kind 2 before 3, then the lower name, as one number: the lower comes sooner.
 pub fn rank(left: Intervals, kind: u32, name: Name) -> u64
-    ensures { result ≡ (left.0 * kindRoom + kind) * nameRoom + nameRank name }
+    ensures { result ≡ (left.0 * kind_room + kind) * name_room + name_rank name }
 {
     let first = (left.0 as u64) * KIND_ROOM + (kind as u64);
     first * spec_model::NAME_ROOM + spec_model::name_rank(name)
 }
 
 pub fn owed_of(e: Entry) -> Slots
-    ensures { result.0 ≡ owedTo e }
+    ensures { result.0 ≡ owed_to e }
 {
     if is_piece(e) {
         return e.owed;
@@ -79,7 +79,7 @@ pub fn owed_of(e: Entry) -> Slots
 // ---- C. what remains is shared in proportion
 // What an entry may still get before its slots of step B; a transfer has no part in step C.
 pub fn limit_of(e: Entry) -> Slots
-    ensures { result.0 ≡ limitOf e }
+    ensures { result.0 ≡ limit_of e }
 {
     let kind = e.kind;
     let most = e.max.0;

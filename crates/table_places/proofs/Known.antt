@@ -12,15 +12,15 @@ use Rattle.spec_model.specs.declared.Table.{Table}
 use Rattle.spec_model.specs.contracts.Table as T
 
 module _ (t : Table) {vs : List Val} (p : Is T.the_row t vs) where
-  pub places-all : length t.entries ≡ places
-  places-all = sym (length-map t.entries _) ∙ p.1.1.1.0.1.0.1
+  pub places_all : length t.entries ≡ places
+  places_all = sym (length-map t.entries _) ∙ p.1.1.1.0.1.0.1
 
   -- a place that a loop reads, and the end of the loop
   pub inside : {i : ℕ} → i < places → i < length t.entries
-  inside h = omega (arith, places-all)
+  inside h = omega (arith, places_all)
 
   pub past : {i : ℕ} → places ≤ i → length t.entries ≤ i
-  past h = omega (arith, places-all)
+  past h = omega (arith, places_all)
 
   pub size : (f : Entry → ℕ) → length (map f t.entries) ≡ places
-  size f = length-map t.entries f ∙ places-all
+  size f = length-map t.entries f ∙ places_all

@@ -21,7 +21,7 @@ use denote.Struct.Laws as LL
 use denote.Triple.Spec.{triple_of}
 use denote.Triple.Statement.{Contract, Triple}
 use denote.Triple.Clauses.{ensured, lasts}
-use Rattle.spec_model.specs.Names.{same, isNobody}
+use Rattle.spec_model.specs.Names.{same, is_nobody}
 use Rattle.spec_model.specs.declared.Name.{Name}
 use Rattle.spec_model.specs.declared.Entry.{Entry}
 use Rattle.spec_model.specs.contracts.Name as N
@@ -31,17 +31,17 @@ use Rattle.spec_model.proofs.same.Symbol.{name as #spec-model·same}
 use Rattle.spec_model.specs.contracts.is_nobody as nobody'
 use Rattle.spec_model.proofs.is_nobody.Symbol.{name as #spec-model·is-nobody}
 use Rattle.law_lent.proofs.Lent.{Typed}
-use Rattle.law_lent.proofs.Walk.{Gives, gives, calls-value}
+use Rattle.law_lent.proofs.Walk.{Gives, gives, calls_value}
 use Rattle.law_lent.proofs.Entries.{IsEntry}
 
-abbrev pub nameVal : Name → Val
-nameVal n = LL.val N.the_type N'.the_laws n
+abbrev pub name_val : Name → Val
+name_val n = LL.val N.the_type N'.the_laws n
 
 abbrev pub IsName : Name → Type 0
-IsName n = Is N.the_row n (nameVal n ∷ [])
+IsName n = Is N.the_row n (name_val n ∷ [])
 
-pub typed-name : {M : Type 1} {𝓤 : Ura M} (𝓛 : Logic 𝓤) → (n : Name) → IsName n → Typed N'.mir (nameVal n)
-typed-name 𝓛 n is = ((LL.lawful N.the_type N'.the_laws 𝓛).typed n _ is).0
+pub typed_name : {M : Type 1} {𝓤 : Ura M} (𝓛 : Logic 𝓤) → (n : Name) → IsName n → Typed N'.mir (name_val n)
+typed_name 𝓛 n is = ((LL.lawful N.the_type N'.the_laws 𝓛).typed n _ is).0
 
 -- the name of an entry is one
 pub entry_named : (e : Entry) → IsEntry e → IsName e.name
@@ -55,32 +55,32 @@ module _ {M : Type 1} {𝓤 : Ura M} (𝓛 : Logic 𝓤) (at_mem : Memory → SP
   Nobody = triple_of 𝓛 nobody'.signature (nobody'.spec 𝓛 at_mem run)
 
   module _ (a : Name) (is-a : IsName a) where
-    abbrev to-nobody : Nobody.Ghost
-    to-nobody = ((tt, tt, tt, (a, tt), (nameVal a ∷ [], tt)), tt)
+    abbrev to_nobody : Nobody.Ghost
+    to_nobody = ((tt, tt, tt, (a, tt), (name_val a ∷ [], tt)), tt)
 
-    nobody-asked : ent 𝓤 (emp 𝓤) (Nobody.pre to-nobody)
-    nobody-asked =
+    nobody_asked : ent 𝓤 (emp 𝓤) (Nobody.pre to_nobody)
+    nobody_asked =
         qed 𝓛 [] ∵ nothing ! $ nothing ! $
-        owned ! N.the_row (Is N.the_row) ((LL.makes N.the_type N'.the_plain) 𝓛) a (nameVal a ∷ []) is-a $ fjoin ! $ nothing ! $ join ! $ done !
+        owned ! N.the_row (Is N.the_row) ((LL.makes N.the_type N'.the_plain) 𝓛) a (name_val a ∷ []) is-a $ fjoin ! $ nothing ! $ join ! $ done !
 
-    nobody-given : (w : Val) → ent 𝓤 (Nobody.post to-nobody w) (mean 𝓛 (Gives 𝓤 Boolean (λ r. r ≡ isNobody a) w))
-    nobody-given w =
-        gives 𝓛 Boolean (λ r. r ≡ isNobody a) w (ensured 𝓛 nobody'.ended (nobody'.clauses 𝓛 at_mem run) tt (a, tt) tt)
-        (λ r. ex_e 𝓤 _ (λ ws. snd∗ 𝓤 (sem 𝓛 (lasts nobody'.ended tt (a, tt) ws)) (fact 𝓤 (r ≡ isNobody a))))
+    nobody_given : (w : Val) → ent 𝓤 (Nobody.post to_nobody w) (mean 𝓛 (Gives 𝓤 Boolean (λ r. r ≡ is_nobody a) w))
+    nobody_given w =
+        gives 𝓛 Boolean (λ r. r ≡ is_nobody a) w (ensured 𝓛 nobody'.ended (nobody'.clauses 𝓛 at_mem run) tt (a, tt) tt)
+        (λ r. ex_e 𝓤 _ (λ ws. snd∗ 𝓤 (sem 𝓛 (lasts nobody'.ended tt (a, tt) ws)) (fact 𝓤 (r ≡ is_nobody a))))
 
     module _ (b : Name) (is_b : IsName b) where
       abbrev to_same : Same.Ghost
-      to_same = ((tt, tt, tt, (a, (b, tt)), (nameVal a ∷ [], (nameVal b ∷ [], tt))), tt)
+      to_same = ((tt, tt, tt, (a, (b, tt)), (name_val a ∷ [], (name_val b ∷ [], tt))), tt)
 
       same_asked : ent 𝓤 (emp 𝓤) (Same.pre to_same)
       same_asked =
           qed 𝓛 [] ∵ nothing ! $ nothing ! $
-          owned ! N.the_row (Is N.the_row) ((LL.makes N.the_type N'.the_plain) 𝓛) b (nameVal b ∷ []) is_b $ fjoin ! $
-          owned ! N.the_row (Is N.the_row) ((LL.makes N.the_type N'.the_plain) 𝓛) a (nameVal a ∷ []) is-a $ fjoin ! $
+          owned ! N.the_row (Is N.the_row) ((LL.makes N.the_type N'.the_plain) 𝓛) b (name_val b ∷ []) is_b $ fjoin ! $
+          owned ! N.the_row (Is N.the_row) ((LL.makes N.the_type N'.the_plain) 𝓛) a (name_val a ∷ []) is-a $ fjoin ! $
           nothing ! $ join ! $ done !
 
-      same-given : (w : Val) → ent 𝓤 (Same.post to_same w) (mean 𝓛 (Gives 𝓤 Boolean (λ r. r ≡ same a b) w))
-      same-given w =
+      same_given : (w : Val) → ent 𝓤 (Same.post to_same w) (mean 𝓛 (Gives 𝓤 Boolean (λ r. r ≡ same a b) w))
+      same_given w =
           gives 𝓛 Boolean (λ r. r ≡ same a b) w (ensured 𝓛 same'.ended (same'.clauses 𝓛 at_mem run) tt (a, (b, tt)) tt)
           (λ r. ex_e 𝓤 _ (λ ws. snd∗ 𝓤 (sem 𝓛 (lasts same'.ended tt (a, (b, tt)) ws)) (fact 𝓤 (r ≡ same a b))))
 
@@ -88,20 +88,20 @@ module _ {M : Type 1} {𝓤 : Ura M} {𝓛 : Logic 𝓤} (at_mem : Memory → SP
     {Γ : List (Item 𝓤)} {C : Calls 𝓤 𝓛.H} {Λ : Loops 𝓤 𝓛.H} {E : Env 𝓤 𝓛.H} {Q : Post 𝓤 𝓛.H} {xs : List Operand} {d : Place} {rest : Code} where
   open 𝓛 use {H}
 
-  pub asks-nobody : Go {0} → FmC 𝓤 H 𝓛.laws C → Triple 𝓤 (C #spec-model·is-nobody) (Nobody 𝓛 at_mem run)
+  pub asks_nobody : Go {0} → FmC 𝓤 H 𝓛.laws C → Triple 𝓤 (C #spec-model·is-nobody) (Nobody 𝓛 at_mem run)
       → (a : Name) (is-a : IsName a)
-      → Opds (Go {0}) 𝓛 (raw ((Nobody 𝓛 at_mem run).pre (to-nobody 𝓛 at_mem run a is-a)) ∷ Γ) E xs (nameVal a ∷ [])
-      → ((r : Bool) → r ≡ isNobody a → Seq (Go {0}) 𝓛 Γ (lands C Λ E d (vbool r) rest Q))
+      → Opds (Go {0}) 𝓛 (raw ((Nobody 𝓛 at_mem run).pre (to_nobody 𝓛 at_mem run a is-a)) ∷ Γ) E xs (name_val a ∷ [])
+      → ((r : Bool) → r ≡ is_nobody a → Seq (Go {0}) 𝓛 Γ (lands C Λ E d (vbool r) rest Q))
       → Seq (Go {0}) 𝓛 Γ (runs C Λ E (seq (call #spec-model·is-nobody xs d) rest) Q)
-  asks-nobody z fm known a is-a os k =
-      calls-value ! fm Boolean vbool bool_Tells (λ r. r ≡ isNobody a) (Nobody 𝓛 at_mem run) known (to-nobody 𝓛 at_mem run a is-a)
-      (nobody-asked 𝓛 at_mem run a is-a) (nobody-given 𝓛 at_mem run a is-a) os (λ r e is. k r e)
+  asks_nobody z fm known a is-a os k =
+      calls_value ! fm Boolean vbool bool_Tells (λ r. r ≡ is_nobody a) (Nobody 𝓛 at_mem run) known (to_nobody 𝓛 at_mem run a is-a)
+      (nobody_asked 𝓛 at_mem run a is-a) (nobody_given 𝓛 at_mem run a is-a) os (λ r e is. k r e)
 
-  pub asks-same : Go {0} → FmC 𝓤 H 𝓛.laws C → Triple 𝓤 (C #spec-model·same) (Same 𝓛 at_mem run)
+  pub asks_same : Go {0} → FmC 𝓤 H 𝓛.laws C → Triple 𝓤 (C #spec-model·same) (Same 𝓛 at_mem run)
       → (a : Name) (is-a : IsName a) (b : Name) (is_b : IsName b)
-      → Opds (Go {0}) 𝓛 (raw ((Same 𝓛 at_mem run).pre (to_same 𝓛 at_mem run a is-a b is_b)) ∷ Γ) E xs (nameVal a ∷ nameVal b ∷ [])
+      → Opds (Go {0}) 𝓛 (raw ((Same 𝓛 at_mem run).pre (to_same 𝓛 at_mem run a is-a b is_b)) ∷ Γ) E xs (name_val a ∷ name_val b ∷ [])
       → ((r : Bool) → r ≡ same a b → Seq (Go {0}) 𝓛 Γ (lands C Λ E d (vbool r) rest Q))
       → Seq (Go {0}) 𝓛 Γ (runs C Λ E (seq (call #spec-model·same xs d) rest) Q)
-  asks-same z fm known a is-a b is_b os k =
-      calls-value ! fm Boolean vbool bool_Tells (λ r. r ≡ same a b) (Same 𝓛 at_mem run) known (to_same 𝓛 at_mem run a is-a b is_b)
-      (same_asked 𝓛 at_mem run a is-a b is_b) (same-given 𝓛 at_mem run a is-a b is_b) os (λ r e is. k r e)
+  asks_same z fm known a is-a b is_b os k =
+      calls_value ! fm Boolean vbool bool_Tells (λ r. r ≡ same a b) (Same 𝓛 at_mem run) known (to_same 𝓛 at_mem run a is-a b is_b)
+      (same_asked 𝓛 at_mem run a is-a b is_b) (same_given 𝓛 at_mem run a is-a b is_b) os (λ r e is. k r e)

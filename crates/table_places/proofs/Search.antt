@@ -35,11 +35,11 @@ use Rattle.spec_model.specs.declared.Table.{Table}
 use Rattle.spec_model.specs.contracts.Name as N
 use Rattle.spec_model.proofs.Name.TheLaws as N'
 use Rattle.spec_model.specs.contracts.Table as T
-use Rattle.table_places.specs.Search.{isHeldAs}
+use Rattle.table_places.specs.Search.{is_held_as}
 use Rattle.law_lent.proofs.Lent.{lent}
 use Rattle.law_lent.proofs.Entries.{table_at}
 use Rattle.law_lent.proofs.Looked.{look, Shared}
-use Rattle.table_places.proofs.Named.{nameVal, IsName}
+use Rattle.table_places.proofs.Named.{name_val, IsName}
 use Rattle.table_places.specs.contracts.place_in as search
 use Rattle.table_places.proofs.place_in.Symbol.{name as #table-places·place-in}
 
@@ -47,20 +47,20 @@ abbrev ref : ℕ → ℕ → GName → Table → Bor Table
 ref b o γ h = record { ref_ptr = (b, o); now = h }
 
 abbrev pub IsPlace : Table → Name → ℕ → Type 0
-IsPlace t n p = p ≡ first_of (isHeldAs n) t.entries
+IsPlace t n p = p ≡ first_of (is_held_as n) t.entries
 
 module _ {M : Type 1} {𝓤 : Ura M} (𝓛 : Logic 𝓤) (at_mem : Memory → SProp 𝓤) (run : Routine → Fun 𝓤) where
   abbrev pub Search : Contract 𝓤
   Search = triple_of 𝓛 search.signature (search.spec 𝓛 at_mem run)
 
   module _ (κ : Lft) (q : Share) (b o : ℕ) (γ : GName) (h : Table) (n : Name) where
-    abbrev to-search : Search.Ghost
-    to-search = (((κ, tt), (q, tt), tt, (ref b o γ h, (n, tt)), (vptr b o ∷ [], (nameVal n ∷ [], tt))), tt)
+    abbrev to_search : Search.Ghost
+    to_search = (((κ, tt), (q, tt), tt, (ref b o γ h, (n, tt)), (vptr b o ∷ [], (name_val n ∷ [], tt))), tt)
 
-    search-asked : IsName n → ent 𝓤 (⋆ 𝓛 (Shared 𝓤 κ q b o γ h)) (Search.pre to-search)
-    search-asked is =
+    search_asked : IsName n → ent 𝓤 (⋆ 𝓛 (Shared 𝓤 κ q b o γ h)) (Search.pre to_search)
+    search_asked is =
         qed 𝓛 (Shared 𝓤 κ q b o γ h) ∵ feq_i ! (List Val) (vptr b o ∷ []) (vptr b o ∷ []) refl $ fjoin3 ! $ nothing ! $
-        owned ! N.the_row (Is N.the_row) ((LL.makes N.the_type N'.the_plain) 𝓛) n (nameVal n ∷ []) is $ fjoin ! $
+        owned ! N.the_row (Is N.the_row) ((LL.makes N.the_type N'.the_plain) 𝓛) n (name_val n ∷ []) is $ fjoin ! $
         move ! (1 ∷ 0 ∷ []) $ fjoin ! $ nothing ! $
         move ! (2 ∷ 0 ∷ []) $ join ! $ join ! $ nothing ! $ move ! (1 ∷ 0 ∷ []) $ done !
 
@@ -71,14 +71,14 @@ module _ {M : Type 1} {𝓤 : Ura M} {𝓛 : Logic 𝓤} (at_mem : Memory → SP
 
   pub searches : Go {0} → FmC 𝓤 H 𝓛.laws C → Triple 𝓤 (C #table-places·place-in) (Search 𝓛 at_mem run)
       → {κ : Lft} {q : Share} {γ : GName} (b o : ℕ) (h : Table) (n : Name) → IsName n
-      → Opds (Go {0}) 𝓛 (raw ((Search 𝓛 at_mem run).pre (to-search 𝓛 at_mem run κ q b o γ h n)) ∷ Γ) E xs
-      (vptr b o ∷ nameVal n ∷ [])
+      → Opds (Go {0}) 𝓛 (raw ((Search 𝓛 at_mem run).pre (to_search 𝓛 at_mem run κ q b o γ h n)) ∷ Γ) E xs
+      (vptr b o ∷ name_val n ∷ [])
       → ((p : ℕ) → IsPlace h n p → p < 2 ^ 64 → Seq (Go {0}) 𝓛 (‵ (flft κ q) ∷ Γ) (lands C Λ E d (vint w64 p) rest Q))
       → Seq (Go {0}) 𝓛 (‵ (fres γ (lent h)) ∷ ‵ (look κ h b o) ∷ ‵ (flft κ q) ∷ Γ) (runs C Λ E (seq (call #table-places·place-in xs d) rest) Q)
   searches z fm known {κ} {q} {γ} b o h n named os k =
-      use3 𝓛 (raw ((Search 𝓛 at_mem run).pre (to-search 𝓛 at_mem run κ q b o γ h n)))
-      (search-asked 𝓛 at_mem run κ q b o γ h n named) $
-      calls_at ! fm (Search 𝓛 at_mem run) known (to-search 𝓛 at_mem run κ q b o γ h n) os (λ w.
+      use3 𝓛 (raw ((Search 𝓛 at_mem run).pre (to_search 𝓛 at_mem run κ q b o γ h n)))
+      (search_asked 𝓛 at_mem run κ q b o γ h n named) $
+      calls_at ! fm (Search 𝓛 at_mem run) known (to_search 𝓛 at_mem run κ q b o γ h n) os (λ w.
       use1 𝓛 (later (some (λ (p : ℕ). ((‵ (flft κ q) ⊛ ‵ ftrue) ⊛ ‵ (usize.own_val p (w ∷ [])))
       ⊛ raw (ensured 𝓛 search.ended (search.clauses 𝓛 at_mem run) (κ, tt) (ref b o γ h, (n, tt)) tt p))))
       (id⊢ 𝓤 _) $ await ! tt $ pick ! (λ p. split ! $ move ! (1 ∷ []) $
@@ -93,13 +93,13 @@ module _ {M : Type 1} {𝓤 : Ura M} {𝓛 : Logic 𝓤} (at_mem : Memory → SP
   -- the search in a table that is had whole: it is lent for the call, and is back after it
   open 𝓛 use {H}
 
-  pub searches-whole : Go {0} → FmC 𝓤 H 𝓛.laws C → Triple 𝓤 (C #table-places·place-in) (Search 𝓛 at_mem run)
+  pub searches_whole : Go {0} → FmC 𝓤 H 𝓛.laws C → Triple 𝓤 (C #table-places·place-in) (Search 𝓛 at_mem run)
       → (b o : ℕ) (h : Table) (n : Name) → IsName n
-      → ((α : ℕ) (γ : GName) → Opds (Go {0}) 𝓛 (raw ((Search 𝓛 at_mem run).pre (to-search 𝓛 at_mem run (α ∷ []) full_share b o γ h n))
-      ∷ ‵ (flent (α ∷ []) (table_at full_share h b o)) ∷ Γ) E xs (vptr b o ∷ nameVal n ∷ []))
+      → ((α : ℕ) (γ : GName) → Opds (Go {0}) 𝓛 (raw ((Search 𝓛 at_mem run).pre (to_search 𝓛 at_mem run (α ∷ []) full_share b o γ h n))
+      ∷ ‵ (flent (α ∷ []) (table_at full_share h b o)) ∷ Γ) E xs (vptr b o ∷ name_val n ∷ []))
       → ((p : ℕ) → IsPlace h n p → p < 2 ^ 64 → Seq (Go {0}) 𝓛 (‵ (table_at full_share h b o) ∷ Γ) (lands C Λ E d (vint w64 p) rest Q))
       → Seq (Go {0}) 𝓛 (‵ (table_at full_share h b o) ∷ Γ) (runs C Λ E (seq (call #table-places·place-in xs d) rest) Q)
-  searches-whole z fm known b o h n named os k =
+  searches_whole z fm known b o h n named os k =
       lft_new ! tt (λ α. move ! (1 ∷ []) $
       use1 𝓛 (later (some (λ (γ : GName). ‵ ((ShrRef (lifetime 0) (α ∷ []) T.the_row).own_val (ref b o γ h) (vptr b o ∷ []))
       ⊛ ‵ (flent (α ∷ []) (table_at full_share h b o))))) (lends_shr 𝓛 T.the_row (lifetime 0) (α ∷ []) full_share h b o) $ await ! tt $

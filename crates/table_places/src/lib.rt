@@ -1,14 +1,14 @@
 // The places of a table: an entry put at one, and the place of a request by its name, in a table by value and in a lent one.
 ghost use Rattle.std.specs.Prelude.{◌≡◌};
-ghost use Rattle.spec_model.specs.Tables.{putIn};
+ghost use Rattle.spec_model.specs.Tables.{put_in};
 ghost use Rattle.base_lists.specs.First.{first_of};
-ghost use Rattle.table_places.specs.Search.{isHeldAs};
+ghost use Rattle.table_places.specs.Search.{is_held_as};
 
 use spec_model::{Entry, Name, Table};
 
 // The table with the entry at the place; a place past the last changes nothing.
 pub fn put_in(t: Table, place: usize, e: Entry) -> Table
-    ensures { result ≡ putIn t place e }
+    ensures { result ≡ put_in t place e }
 {
     let mut table = t;
     if place < spec_model::PLACES {
@@ -19,7 +19,7 @@ pub fn put_in(t: Table, place: usize, e: Entry) -> Table
 
 // The name of a free place is held by nobody.
 pub fn place_of(t: Table, name: Name) -> usize
-    ensures { result ≡ first_of (isHeldAs name) t.entries }
+    ensures { result ≡ first_of (is_held_as name) t.entries }
 {
     if spec_model::is_nobody(name) {
         return spec_model::NO_PLACE;
@@ -34,7 +34,7 @@ pub fn place_of(t: Table, name: Name) -> usize
 }
 
 pub fn place_in(table: &Table, name: Name) -> usize
-    ensures { result ≡ first_of (isHeldAs name) table.now.entries }
+    ensures { result ≡ first_of (is_held_as name) table.now.entries }
 {
     if spec_model::is_nobody(name) {
         return spec_model::NO_PLACE;

@@ -5,11 +5,11 @@ use Rattle.std.proofs.lemmas.Bool.{lt-leb}
 use Rattle.base_lists.specs.Tests.{same_test}
 
 -- what is left of b slots beside n is enough for s more
-pub over-test : (n s b : ℕ) → b < n → false ≡ leb (n + s) b
-over-test n s b h = sym (lt-leb (n + s) b (omega arith))
+pub over_test : (n s b : ℕ) → b < n → false ≡ leb (n + s) b
+over_test n s b h = sym (lt-leb (n + s) b (omega arith))
 
-pub left-test : (n s b : ℕ) → n ≤ b → leb s (b - n) ≡ leb (n + s) b
-left-test n s b h =
+pub left_test : (n s b : ℕ) → n ≤ b → leb s (b - n) ≡ leb (n + s) b
+left_test n s b h =
     same_test (leb s (b - n)) (leb (n + s) b)
     (λ e. let k = leb-true s (b - n) e in le-leb (n + s) b (omega arith))
     (λ e. let k = leb-true (n + s) b e in le-leb s (b - n) (omega arith))

@@ -4,15 +4,15 @@ ghost use Rattle.std.specs.Prelude.{true, cond, ◌||◌, ◌≡◌, ◌+◌, �
 ghost use Rattle.spec_lists.specs.Lists.{sum_of};
 ghost use Rattle.base_lists.specs.First.{first_of};
 ghost use Rattle.spec_model.specs.Tables.{places};
-ghost use Rattle.spec_model.specs.Frames.{roomIn};
+ghost use Rattle.spec_model.specs.Frames.{room_in};
 ghost use Rattle.spec_rules.specs.Calls.{holds};
 ghost use Rattle.spec_rules.specs.WellFormed.{Tidy};
 ghost use Rattle.spec_rules.specs.Share.{load_of};
-ghost use Rattle.law_model.specs.Frames.{mostSlots};
+ghost use Rattle.law_model.specs.Frames.{most_slots};
 ghost use Rattle.table_queue.specs.Queues.{Used};
-ghost use Rattle.ahead_even.specs.Need.{evenNeed};
-ghost use Rattle.table_survey.specs.Free.{isFree};
-ghost use Rattle.table_survey.specs.Passes.{withEntry, mostNeed};
+ghost use Rattle.ahead_even.specs.Need.{even_need};
+ghost use Rattle.table_survey.specs.Free.{is_free};
+ghost use Rattle.table_survey.specs.Passes.{with_entry, most_need};
 
 use spec_model::{Entry, Frame, Name, Table};
 
@@ -48,9 +48,9 @@ fn free_after(free: usize, i: usize) -> usize
 
 // One place more: a free one adds nothing.
 fn look_at(s: Survey, e: Entry, i: usize, name: Name) -> Survey
-    requires i_lt_places { (i < places) × (s.needed ≤ mostNeed * i) }
-    requires e_bound { (load_of e ≤ mostSlots) × (isFree e ≡ true → evenNeed e ≡ 0) }
-    ensures { (result ≡ withEntry name i e s) × (result.needed ≤ mostNeed * (i + 1)) }
+    requires i_lt_places { (i < places) × (s.needed ≤ most_need * i) }
+    requires e_bound { (load_of e ≤ most_slots) × (is_free e ≡ true → even_need e ≡ 0) }
+    ensures { (result ≡ with_entry name i e s) × (result.needed ≤ most_need * (i + 1)) }
 {
     if spec_model::is_nobody(e.name) {
         return s;
@@ -68,7 +68,7 @@ fn look_at(s: Survey, e: Entry, i: usize, name: Name) -> Survey
 
 pub fn survey_for(t: Table, name: Name) -> Survey
     requires { Tidy t }
-    ensures { (result.taken ≡ holds t name) × (result.free ≡ first_of isFree t.entries) × (result.needed ≡ sum_of evenNeed t.entries)
+    ensures { (result.taken ≡ holds t name) × (result.free ≡ first_of is_free t.entries) × (result.needed ≡ sum_of even_need t.entries)
         × Used result.used t }
 {
     let mut s = Survey {
@@ -87,7 +87,7 @@ pub fn survey_for(t: Table, name: Name) -> Survey
 // ---- a quick yes
 // Whether an interval has room for an even share of what is held and of one entry more. Where it has not, the answer is still open.
 pub fn fits_with(needed: u64, e: Entry, f: Frame) -> bool
-    ensures { result ≡ leb (needed + evenNeed e) (roomIn f) }
+    ensures { result ≡ leb (needed + even_need e) (room_in f) }
 {
     let slots = spec_model::room_in(f).0 as u64;
     if slots < needed {

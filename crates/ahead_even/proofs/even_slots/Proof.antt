@@ -4,7 +4,7 @@ use native.Mathlib.Omega.{arith}
 use borrow.Author.Rules.{rules}
 use borrow.Author.Tests.{eq-eqb, ne_eqb, not-true, not-false}
 use Rattle.law_ahead.specs.Even.{evenly}
-use Rattle.ahead_even.specs.Need.{larger-left, larger-right}
+use Rattle.ahead_even.specs.Need.{larger_left, larger_right}
 use Rattle.ahead_even.proofs.even_slots.Statement.{statement}
 use Rattle.ahead_even.proofs.even_slots.Tie as tie
 
@@ -39,7 +39,7 @@ returns-3 c =
     let a = k.before.upward.ensures in
     let b = c.before.upward2.ensures in
     let t = c.if3.true in
-    rw (q, eq-eqb _ _ k.if2.false) (larger-right _ _ (omega arith) ∙ ap₂ max a b)
+    rw (q, eq-eqb _ _ k.if2.false) (larger_right _ _ (omega arith) ∙ ap₂ max a b)
 
 returns-4 : tie.Need-returns-4
 unfolding evenly
@@ -49,7 +49,7 @@ returns-4 c =
     let q = sym h.before.is-piece.ensures ∙ not-false h.before.is-piece.result h.if1.false in
     let a = k.before.upward.ensures in
     let b = c.before.upward2.ensures in
-    rw (q, eq-eqb _ _ k.if2.false) (larger-left _ _ c.if3.false ∙ ap₂ max a b)
+    rw (q, eq-eqb _ _ k.if2.false) (larger_left _ _ c.if3.false ∙ ap₂ max a b)
 
 pub even-slots-spec : {M : Type 1} → statement M
 even-slots-spec =

@@ -1,6 +1,6 @@
 use native.Mathlib.Omega.{arith}
 use borrow.Author.Rules.{rules}
-use Rattle.ahead_even.specs.Need.{evenNeed, load_fits}
+use Rattle.ahead_even.specs.Need.{even_need, load_fits}
 use Rattle.ahead_even.proofs.need_of.Statement.{statement}
 use Rattle.ahead_even.proofs.need_of.Tie as tie
 
@@ -19,7 +19,7 @@ add-result c =
     omega (arith, c.load_of.ensures, c.before.struct_known.given, load_fits s.args.e (omega (arith, s.well-formed)) (omega (arith, s.well-formed)))
 
 returns : tie.Need-returns
-unfolding evenNeed
+unfolding even_need
 returns c =
     let even = c.before.before.even-slots.ensures in
     let load = c.load_of.ensures in

@@ -7,14 +7,14 @@ use borrow.Author.Rules.{rules}
 use Rattle.spec_model.specs.Tables.{places}
 use Rattle.table_queue.specs.Queues.{largest32}
 use Rattle.ahead_figures.specs.Columns.{Columns}
-use Rattle.ahead_figures.specs.Totals.{total, total-none, total-more, total-spare}
-use Rattle.ahead_even.specs.Needs.{needIn, shares, shared-free}
+use Rattle.ahead_figures.specs.Totals.{total, total_none, total_more, total_spare}
+use Rattle.ahead_even.specs.Needs.{need_in, shares, shared_free}
 use Rattle.ahead_even.proofs.needs_of.Statement.{statement}
 use Rattle.ahead_even.proofs.needs_of.Tie as tie
 
 abbrev invariant-loop : tie.invariant-loop
 invariant-loop owed ends loads begins periods used at needs₀ i₀ rules i =
-    (i ≤ used) × (rules ≡ total i (needIn at.0) (shares owed ends loads begins periods)) × (rules ≤ 2 * largest32 * i)
+    (i ≤ used) × (rules ≡ total i (need_in at.0) (shares owed ends loads begins periods)) × (rules ≤ 2 * largest32 * i)
 
 abbrev decreases-loop : tie.decreases-loop
 decreases-loop owed ends loads begins periods used at needs₀ i₀ rules i = used - i
@@ -25,7 +25,7 @@ lent s =
     shares s.args.owed.now s.args.ends.now s.args.loads.now s.args.begins.now s.args.periods.now
 
 loop-holds : tie.Need-loop-init invariant-loop decreases-loop
-loop-holds c = (omega arith, sym (total-none _ (lent c)), omega arith)
+loop-holds c = (omega arith, sym (total_none _ (lent c)), omega arith)
 
 mul-t14 : tie.Need-overflow-mul-t14 invariant-loop decreases-loop
 mul-t14 c = search rules
@@ -94,7 +94,7 @@ loop-again c =
     let h = w.loop-test.true in
     let v = l.loop.invariant in (
       omega arith,
-      omega (arith, v.1, d.evened.ensures, total-more (needIn s.args.at.0) (lent s) l.loop.i),
+      omega (arith, v.1, d.evened.ensures, total_more (need_in s.args.at.0) (lent s) l.loop.i),
       omega (arith, v.2, l2.struct-known2.given, c.struct-known3.given),
     )
 
@@ -104,8 +104,8 @@ returns c =
     let s = l.before in
     let e : l.loop.i ≡ s.args.used = omega arith in
     l.loop.invariant.1
-    ∙ ap (λ n. total n (needIn s.args.at.0) (lent s)) e
-    ∙ total-spare (needIn s.args.at.0) (lent s) s.requires.few (shared-free s.requires)
+    ∙ ap (λ n. total n (need_in s.args.at.0) (lent s)) e
+    ∙ total_spare (need_in s.args.at.0) (lent s) s.requires.few (shared_free s.requires)
 
 pub needs-of-spec : {M : Type 1} → statement M
 needs-of-spec =

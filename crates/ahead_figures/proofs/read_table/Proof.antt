@@ -3,14 +3,14 @@
 use Prim.Native.Nat.{◌-◌, ◌≤◌}
 use native.Mathlib.Omega.{arith}
 use borrow.Author.Rules.{rules}
-use Rattle.base_lists.specs.All.{all-at}
-use Rattle.spec_model.specs.Entries.{freeEntry}
+use Rattle.base_lists.specs.All.{all_at}
+use Rattle.spec_model.specs.Entries.{free_entry}
 use Rattle.spec_rules.specs.Share.{load_of}
-use Rattle.law_model.specs.Frames.{mostSlots}
-use Rattle.law_steps.specs.Closed.{load-most}
-use Rattle.table_queue.proofs.Known.{used-inside}
+use Rattle.law_model.specs.Frames.{most_slots}
+use Rattle.law_steps.specs.Closed.{load_most}
+use Rattle.table_queue.proofs.Known.{used_inside}
 use Rattle.ahead_figures.specs.Columns.{columns}
-use Rattle.ahead_figures.proofs.Reading.{Reading, reading-none, reading-more, reading-all}
+use Rattle.ahead_figures.proofs.Reading.{Reading, reading_none, reading_more, reading_all}
 use Rattle.ahead_figures.proofs.read_table.Statement.{statement}
 use Rattle.ahead_figures.proofs.read_table.Tie as tie
 
@@ -22,7 +22,7 @@ abbrev decreases-loop : tie.decreases-loop
 decreases-loop used ranks₀ owed₀ ends₀ lives₀ loads₀ begins₀ periods₀ t i₀ ranks owed ends lives loads begins periods i = used - i
 
 loop-holds : tie.Need-loop-init invariant-loop decreases-loop
-loop-holds c = reading-none c.args.t1 c.requires.0.0.size c.requires.1
+loop-holds c = reading_none c.args.t1 c.requires.0.0.size c.requires.1
 
 mul-e : tie.Need-overflow-mul-e invariant-loop decreases-loop
 mul-e c = search rules
@@ -33,8 +33,8 @@ element-copy-out-e c = search rules
 figures-of-requires : tie.Need-figures-of-requires invariant-loop decreases-loop
 figures-of-requires c κs =
     let s = c.before.before.before in
-    let h = used-inside s.args.t1 s.well-formed.0 s.requires.0.1 c.before.loop-test.true in
-    all-at (λ e. load_of e ≤ mostSlots) s.args.t1.entries freeEntry (load-most s.args.t1 s.requires.0.0) _ h
+    let h = used_inside s.args.t1 s.well-formed.0 s.requires.0.1 c.before.loop-test.true in
+    all_at (λ e. load_of e ≤ most_slots) s.args.t1.entries free_entry (load_most s.args.t1 s.requires.0.0) _ h
 
 abbrev figured : tie.After-enter-arg7 invariant-loop decreases-loop → tie.After-figures-of invariant-loop decreases-loop
 figured c = c.before.before.before.before.before.before.before
@@ -54,13 +54,13 @@ loop-again c =
     let w = f.before.before in
     let l = w.before in
     let p = l.before.pre.0 in
-    reading-more l.before.args.t1 p.0.size l.loop.inv p.1 w.loop-test.taken f.figures-of.ensures c.enter.ensures
+    reading_more l.before.args.t1 p.0.size l.loop.inv p.1 w.loop-test.taken f.figures-of.ensures c.enter.ensures
 
 returns : tie.Need-returns invariant-loop decreases-loop
 returns c =
     let l = c.before in
     let p = l.before.requires.0 in
-    reading-all l.before.args.t1 p.0.size l.loop.invariant p.1 c.loop-test.false
+    reading_all l.before.args.t1 p.0.size l.loop.invariant p.1 c.loop-test.false
 
 pub read-table-spec : {M : Type 1} → statement M
 read-table-spec =

@@ -7,16 +7,16 @@ use native.Mathlib.Omega.{arith}
 use borrow.Author.Rules.{rules}
 use Rattle.spec_lists.specs.Lists.{sum_of}
 use Rattle.spec_model.specs.declared.Table.{Table}
-use Rattle.law_model.specs.Frames.{mostSlots, room_most}
-use Rattle.law_steps.specs.Closed.{slots-most}
+use Rattle.law_model.specs.Frames.{most_slots, room_most}
+use Rattle.law_steps.specs.Closed.{slots_most}
 use Rattle.ahead_figures.specs.Columns.{Columns, columns}
 use Rattle.ahead_figures.specs.Figures.{longest}
 use Rattle.ahead_serve.specs.Serving.{left_of, unpaid, Ranked}
-use Rattle.ahead_next.specs.Ends.{firstEnd}
-use Rattle.law_figures.specs.Shows.{for-load, for-end}
-use Rattle.law_figures.specs.Looking.{ahead, Begins, Looking, Follows, first-full, looking-first, for-pay, for-serve, for-pass, at-soon}
-use Rattle.law_figures.specs.Looking.{looking-done, looking-late, looking-next}
-use Rattle.law_figures.specs.Evenly.{shared, looking-even}
+use Rattle.ahead_next.specs.Ends.{first_end}
+use Rattle.law_figures.specs.Shows.{for_load, for_end}
+use Rattle.law_figures.specs.Looking.{ahead, Begins, Looking, Follows, first_full, looking_first, for_pay, for_serve, for_pass, at_soon}
+use Rattle.law_figures.specs.Looking.{looking_done, looking_late, looking_next}
+use Rattle.law_figures.specs.Evenly.{shared, looking_even}
 use Rattle.ahead_loop.proofs.goes_well.Statement.{statement}
 use Rattle.ahead_loop.proofs.goes_well.Tie as tie
 
@@ -24,7 +24,7 @@ abbrev invariant-loop : tie.invariant-loop
 invariant-loop used ranks₀ owed₀ ends₀ lives loads₀ begins₀ periods slots load₀ time₀ try-at₀ at₀ ranks owed ends loads begins load time try-at at =
     Follows slots used (columns ranks₀ owed₀ ends₀ lives loads₀ begins₀ periods) time.0 load
     (columns ranks owed ends lives loads begins periods)
-    × (at.0 ≡ firstEnd ends)
+    × (at.0 ≡ first_end ends)
 
 abbrev decreases-loop : tie.decreases-loop
 decreases-loop used ranks₀ owed₀ ends₀ lives loads₀ begins₀ periods slots load₀ time₀ try-at₀ at₀ ranks owed ends loads begins load time try-at at =
@@ -41,16 +41,16 @@ cast-slots : tie.Need-overflow-cast-slots invariant-loop decreases-loop
 cast-slots c = search rules
 
 loads-in-requires : tie.Need-loads-in-requires invariant-loop decreases-loop
-loads-in-requires c κs = (let b = c.before.before.requires.1 in for-load b.shows b.tidy)
+loads-in-requires c κs = (let b = c.before.before.requires.1 in for_load b.shows b.tidy)
 
 returns : tie.Need-returns invariant-loop decreases-loop
-returns c = λ t b. first-full b c.before.loads-in.ensures c.if1.true
+returns c = λ t b. first_full b c.before.loads-in.ensures c.if1.true
 
 next-end-requires : tie.Need-next-end-requires invariant-loop decreases-loop
-next-end-requires c κs = (let b = c.before.before.before.before.before.requires.1 in for-end b.shows b.tidy)
+next-end-requires c κs = (let b = c.before.before.before.before.before.requires.1 in for_end b.shows b.tidy)
 
 loop-holds : tie.Need-loop-init invariant-loop decreases-loop
-loop-holds c = (λ t b. looking-first b c.before.before.before.loads-in.ensures c.before.before.if1.false, c.next-end.ensures)
+loop-holds c = (λ t b. looking_first b c.before.before.before.loads-in.ensures c.before.before.if1.false, c.next_end.ensures)
 
 -- ---- a turn
 abbrev start : tie.At-loop invariant-loop decreases-loop → tie.Start invariant-loop decreases-loop
@@ -72,7 +72,7 @@ abbrev at-loop : tie.Then2 invariant-loop decreases-loop → tie.At-loop invaria
 at-loop c = c.before.before.before
 
 soon : (c : tie.Then2 invariant-loop decreases-loop) → (let l = (at-loop c).loop in (l.time.0 < l.at.0) × (l.at.0 ≤ longest))
-soon c = at-soon (known (at-loop c)) (at-loop c).loop.invariant.1 c.if2.true
+soon c = at_soon (known (at-loop c)) (at-loop c).loop.invariant.1 c.if2.true
 
 sub-capacity : tie.Need-overflow-sub-capacity invariant-loop decreases-loop
 sub-capacity c = omega (arith, (soon c.before.before).0)
@@ -89,12 +89,12 @@ mul-capacity c =
     let l = at-loop i in
     let k = known l in
     let few : l.loop.at.0 - l.loop.time.0 ≤ longest = omega (arith, (soon i).1) in
-    let slots : (start l).args.room.0 - l.loop.load ≤ mostSlots =
-    omega (arith, room_most k.table.frame, slots-most k.table k.tidy, k.frame) in
+    let slots : (start l).args.room.0 - l.loop.load ≤ most_slots =
+    omega (arith, room_most k.table.frame, slots_most k.table k.tidy, k.frame) in
     omega (arith, mul-le-mul few slots)
 
 pay-due-requires : tie.Need-pay-due-requires invariant-loop decreases-loop
-pay-due-requires c κs = for-pay (known (at-loop c.before.before.before.before))
+pay-due-requires c κs = for_pay (known (at-loop c.before.before.before.before))
 
 -- the turn that pays
 abbrev paying : tie.After-pay-due invariant-loop decreases-loop → tie.Then2 invariant-loop decreases-loop
@@ -103,13 +103,13 @@ paying d = d.before.before.before.before.before
 returns-2 : tie.Need-returns-2 invariant-loop decreases-loop
 returns-2 c =
     λ t b. let d = c.before in let i = paying d in let l = at-loop i in
-    looking-late (l.loop.inv.0 t b) l.loop.inv.1 i.if2.taken refl d.pay-due.ensures.0 c.if3.true
+    looking_late (l.loop.inv.0 t b) l.loop.inv.1 i.if2.taken refl d.pay-due.ensures.0 c.if3.true
 
 serve-requires : tie.Need-serve-requires invariant-loop decreases-loop
 serve-requires c κs =
     let d = c.before.before.before in
     let l = at-loop (paying d) in
-    subst (λ o. Ranked l.loop.ranks o (start l).args.used) (sym d.pay-due.ensures.1) (for-serve (known l) l.loop.at.0)
+    subst (λ o. Ranked l.loop.ranks o (start l).args.used) (sym d.pay-due.ensures.1) (for_serve (known l) l.loop.at.0)
 
 -- the slots that are left after what is due, and what stays owed
 abbrev rest : tie.After-pay-due invariant-loop decreases-loop → ℕ
@@ -132,7 +132,7 @@ pass-ends-requires c κs =
     let d = paid v in
     let i = paying d in
     let l = at-loop i in
-    rw (owed-then v) (for-pass (known l) l.loop.at.0 (rest d) (soon i).1)
+    rw (owed-then v) (for_pass (known l) l.loop.at.0 (rest d) (soon i).1)
 
 -- what it knows past the end
 abbrev served : tie.After-pass-ends invariant-loop decreases-loop → tie.After-serve invariant-loop decreases-loop
@@ -157,14 +157,14 @@ past p e t b =
     let v = served p in
     let i = turn p in
     let l = at-loop i in
-    looking-next (l.loop.inv.0 t b) l.loop.inv.1 i.if2.taken refl (paid v).pay-due.ensures.0 v.before.before.before.if3.left
+    looking_next (l.loop.inv.0 t b) l.loop.inv.1 i.if2.taken refl (paid v).pay-due.ensures.0 v.before.before.before.if3.left
     (rw (← owed-then v) p.pass-ends.ensures) e
 
 loads-in-requires-2 : tie.Need-loads-in-requires-2 invariant-loop decreases-loop
 loads-in-requires-2 c κs =
     let p = c.before in
     let k = past p refl (began p).requires.0 (began p).requires.1 in
-    for-load k.shows k.tidy
+    for_load k.shows k.tidy
 
 -- and of the table that was shown at the start
 past-known : (m : tie.After-loads-in2 invariant-loop decreases-loop) → (let p = m.before.before in Past p m.loads-in2.result (began p).requires.0)
@@ -181,13 +181,13 @@ needs-of-requires c κs = shared (past-known (tried c.before.before.before.befor
 returns-3 : tie.Need-returns-3 invariant-loop decreases-loop
 returns-3 c =
     λ t b. let n = c.before in let m = tried n.before.before.before.before.before in
-    looking-even (past m.before.before m.loads-in2.ensures t b) n.needs-of.ensures c.if5.true
+    looking_even (past m.before.before m.loads-in2.ensures t b) n.needs-of.ensures c.if5.true
 
 mul-t42 : tie.Need-overflow-mul-t42 invariant-loop decreases-loop
 mul-t42 c = omega (arith, (past-known (tried c.before.before.before.before.before.before.before)).soon)
 
 next-end-requires-2 : tie.Need-next-end-requires-2 invariant-loop decreases-loop
-next-end-requires-2 c κs = (let k = past-known c.before.before.before.before in for-end k.shows k.tidy)
+next-end-requires-2 c κs = (let k = past-known c.before.before.before.before in for_end k.shows k.tidy)
 
 loop-less : tie.Need-loop-smaller invariant-loop decreases-loop
 loop-less c = (let m = c.before.before.before.before.before in omega (arith, soon (turn m.before.before)))
@@ -199,7 +199,7 @@ loop-again c =
 
 returns-4 : tie.Need-returns-4 invariant-loop decreases-loop
 returns-4 c =
-    λ t b. let l = c.before.before.before in looking-done (l.loop.invariant.0 t b) l.loop.invariant.1 c.if2.false
+    λ t b. let l = c.before.before.before in looking_done (l.loop.invariant.0 t b) l.loop.invariant.1 c.if2.false
 
 pub goes-well-spec : {M : Type 1} → statement M
 goes-well-spec =

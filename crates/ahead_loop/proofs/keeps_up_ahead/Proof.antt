@@ -1,9 +1,9 @@
 use mathlib.Core.Path.{◌≡◌, sym, ap₂, subst, ◌∙◌}
 use borrow.Author.Rules.{rules}
-use Rattle.spec_model.specs.Tables.{putIn}
-use Rattle.ahead_figures.specs.Columns.{Columns, columns, columnsOf, entered, columns-free, columns-entered}
+use Rattle.spec_model.specs.Tables.{put_in}
+use Rattle.ahead_figures.specs.Columns.{Columns, columns, columns_of, entered, columns_free, columns_entered}
 use Rattle.law_figures.specs.Looking.{Begins}
-use Rattle.law_figures.specs.Begin.{begins, load-small, put-used}
+use Rattle.law_figures.specs.Begin.{begins, load_small, put_used}
 use Rattle.ahead_loop.proofs.keeps_up_ahead.Statement.{statement}
 use Rattle.ahead_loop.proofs.keeps_up_ahead.Tie as tie
 
@@ -11,7 +11,7 @@ room-in-requires : tie.Need-room-in-requires
 room-in-requires c κs = search rules
 
 read-table-requires : tie.Need-read-table-requires
-read-table-requires c κs = (c.before.before.before.before.before.before.before.before.requires.0, columns-free)
+read-table-requires c κs = (c.before.before.before.before.before.before.before.before.requires.0, columns_free)
 
 abbrev room : tie.After-read-table → tie.After-room-in
 room r = r.before.before.before.before.before.before.before.before
@@ -20,7 +20,7 @@ abbrev read : tie.After-read-table → tie.Start
 read r = (room r).before
 
 figures-of-requires : tie.Need-figures-of-requires
-figures-of-requires c κs = (let s = read c in load-small s.args.t s.pre.0.0 s.args.e s.pre.1.0 s.pre.1.1)
+figures-of-requires c κs = (let s = read c in load_small s.args.t s.pre.0.0 s.args.e s.pre.1.0 s.pre.1.1)
 
 -- with the figures of the entry
 abbrev entering : tie.After-enter → tie.After-figures-of
@@ -37,22 +37,22 @@ abbrev lent : tie.After-enter → Columns
 lent n = (let x = n.enter.new.1.1 in
     columns x.0 x.1.0 x.1.1.0 x.1.1.1.0 x.1.1.1.1.0 x.1.1.1.1.1.0 x.1.1.1.1.1.1.0)
 
-shown : (n : tie.After-enter) → (let a = (read (entering n).before).args in lent n ≡ columnsOf (putIn a.t a.place a.e).entries)
+shown : (n : tie.After-enter) → (let a = (read (entering n).before).args in lent n ≡ columns_of (put_in a.t a.place a.e).entries)
 shown n =
     let f = entering n in
     let a = (read f.before).args in
     n.enter.ensures ∙ ap₂ (entered a.place) f.figures-of.ensures f.before.read_table.ensures
-    ∙ columns-entered a.t.entries a.place a.e
+    ∙ columns_entered a.t.entries a.place a.e
 
 begun : (k : tie.After-used-with) → (let r = (entering k.before).before in let a = (read r).args in
-    Begins (putIn a.t a.place a.e) (room r).room_in.result.0 k.used-with.result (lent k.before))
+    Begins (put_in a.t a.place a.e) (room r).room_in.result.0 k.used-with.result (lent k.before))
 begun k =
     let r = (entering k.before).before in
     let s = read r in
     let a = s.args in
-    let p = putIn a.t a.place a.e in
+    let p = put_in a.t a.place a.e in
     subst (λ n. Begins p n k.used-with.result (lent k.before)) (sym (room r).room_in.ensures) (begins p s.pre.1.1
-    (put-used a.t s.pre.0.0 a.e s.pre.1.0 s.pre.0.1 k.used-with.ensures) (shown k.before))
+    (put_used a.t s.pre.0.0 a.e s.pre.1.0 s.pre.0.1 k.used-with.ensures) (shown k.before))
 
 goes-well-requires : tie.Need-goes-well-requires
 goes-well-requires c κs = (_, begun c.before.before.before.before.before.before.before)

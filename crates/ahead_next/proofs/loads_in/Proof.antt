@@ -4,8 +4,8 @@ use mathlib.Core.Path.{◌≡◌, refl, ap, ◌∙◌}
 use Prim.Native.Nat.{◌*◌, ◌-◌, ◌≤◌}
 use native.Mathlib.Omega.{arith}
 use borrow.Author.Rules.{rules}
-use Rattle.base_lists.specs.Loops.{summed, summed-more}
-use Rattle.base_lists.specs.Spare.{spare-sum}
+use Rattle.base_lists.specs.Loops.{summed, summed_more}
+use Rattle.base_lists.specs.Spare.{spare_sum}
 use Rattle.table_queue.specs.Queues.{largest32}
 use Rattle.ahead_next.proofs.loads_in.Statement.{statement}
 use Rattle.ahead_next.proofs.loads_in.Tie as tie
@@ -44,7 +44,7 @@ loop-again c =
     let s = l.before in
     let h = w.loop-test.true in (
       omega arith,
-      summed-more (λ v. v) s.args.loads.now l.loop.i 0 (omega (arith, s.requires.0, s.requires.1.0)) l.loop.invariant.1 refl,
+      summed_more (λ v. v) s.args.loads.now l.loop.i 0 (omega (arith, s.requires.0, s.requires.1.0)) l.loop.invariant.1 refl,
       omega (arith, c.struct_known.given),
     )
 
@@ -55,7 +55,7 @@ returns c =
     let e : l.loop.i ≡ s.args.used = omega (arith, c.loop-test.false) in
     l.loop.invariant.1
     ∙ ap (λ n. summed (λ v. v) n s.args.loads.now) e
-    ∙ spare-sum 0 (λ v. v) refl s.args.used s.args.loads.now s.requires.1.1
+    ∙ spare_sum 0 (λ v. v) refl s.args.used s.args.loads.now s.requires.1.1
 
 pub loads-in-spec : {M : Type 1} → statement M
 loads-in-spec =

@@ -3,21 +3,21 @@
 use mathlib.Core.Path.{◌≡◌, refl, ap, ◌∙◌}
 use Prim.Native.Nat.{◌-◌, ◌≤◌}
 use lib.ListN.{take}
-use Rattle.ahead_next.specs.Ends.{firstEnd}
-use Rattle.ahead_next.specs.EndLaws.{first_more, first-all}
+use Rattle.ahead_next.specs.Ends.{first_end}
+use Rattle.ahead_next.specs.EndLaws.{first_more, first_all}
 use Rattle.ahead_next.proofs.next_end.Statement.{statement}
 use native.Mathlib.Omega.{arith}
 use borrow.Author.Rules.{rules}
 use Rattle.ahead_next.proofs.next_end.Tie as tie
 
 abbrev invariant-loop : tie.invariant-loop
-invariant-loop ends used first₀ i₀ first i = (i ≤ used) × (first ≡ firstEnd (take i ends))
+invariant-loop ends used first₀ i₀ first i = (i ≤ used) × (first ≡ first_end (take i ends))
 
 abbrev decreases-loop : tie.decreases-loop
 decreases-loop ends used first₀ i₀ first i = used - i
 
 loop-holds : tie.Need-loop-init invariant-loop decreases-loop
-unfolding firstEnd
+unfolding first_end
 loop-holds c = (omega arith, refl)
 
 mul-smaller : tie.Need-overflow-mul-smaller invariant-loop decreases-loop
@@ -50,7 +50,7 @@ returns c =
     let l = c.before in
     let s = l.before in
     let e : l.loop.i ≡ s.args.used = omega (arith, c.loop-test.false) in
-    l.loop.invariant.1 ∙ ap (λ n. firstEnd (take n s.args.ends.now)) e ∙ first-all s.args.used s.args.ends.now s.requires.1.1
+    l.loop.invariant.1 ∙ ap (λ n. first_end (take n s.args.ends.now)) e ∙ first_all s.args.used s.args.ends.now s.requires.1.1
 
 pub next-end-spec : {M : Type 1} → statement M
 next-end-spec =

@@ -8,7 +8,7 @@ use borrow.Author.Rules.{rules}
 use Rattle.spec_model.specs.Tables.{places}
 use Rattle.ahead_figures.specs.Columns.{columns}
 use Rattle.ahead_figures.specs.declared.Figures.{Figures}
-use Rattle.ahead_pass.specs.PassingLaws.{Passing, passing-none, passing-here, passing-same, passing-more, passing-all}
+use Rattle.ahead_pass.specs.PassingLaws.{Passing, passing_none, passing_here, passing_same, passing_more, passing_all}
 use Rattle.ahead_pass.proofs.pass_ends.Statement.{statement}
 use Rattle.ahead_pass.proofs.pass_ends.Tie as tie
 
@@ -21,7 +21,7 @@ abbrev decreases-loop : tie.decreases-loop
 decreases-loop ranks₀ owed₀ ends₀ lives loads₀ begins₀ periods used at i₀ ranks owed ends loads begins i = used - i
 
 loop-holds : tie.Need-loop-init invariant-loop decreases-loop
-loop-holds c = (omega arith, passing-none _ _ c.requires.sized)
+loop-holds c = (omega arith, passing_none _ _ c.requires.sized)
 
 mul-if1 : tie.Need-overflow-mul-if1 invariant-loop decreases-loop
 mul-if1 c = search rules
@@ -72,7 +72,7 @@ after-end-requires c κs =
     let room = l.before.requires in
     let h : l.loop.i < places = omega (arith, w.loop-test.true, room.few) in
     record {
-      rank = omega (arith, ap (λ (f : Figures). f.rank) (passing-here _ _ l.loop.invariant.1 h), room.rank l.loop.i h);
+      rank = omega (arith, ap (λ (f : Figures). f.rank) (passing_here _ _ l.loop.invariant.1 h), room.rank l.loop.i h);
       period = room.period l.loop.i h;
       soon = room.soon;
     }
@@ -121,8 +121,8 @@ loop-again c =
     let h : l.loop.i < places = omega (arith, w.loop-test.true, l.before.requires.few) in (
       omega (arith, w.loop-test.true),
       elim c.if1.branch [
-        | inl t ↦ rw (t.8, t.9, t.10, t.11, t.12) (passing-more _ _ v h t.0.taken t.7.ensures)
-        | inr t ↦ rw (t.1, t.2, t.3, t.4, t.5) (passing-same _ _ v h t.0.left)
+        | inl t ↦ rw (t.8, t.9, t.10, t.11, t.12) (passing_more _ _ v h t.0.taken t.7.ensures)
+        | inr t ↦ rw (t.1, t.2, t.3, t.4, t.5) (passing_same _ _ v h t.0.left)
       ],
     )
 
@@ -130,7 +130,7 @@ returns : tie.Need-returns invariant-loop decreases-loop
 returns c =
     let l = c.before in
     let p = l.before.requires in
-    passing-all _ _ l.loop.invariant.1 c.loop-test.false p.sized p.spare (omega (arith, p.soon))
+    passing_all _ _ l.loop.invariant.1 c.loop-test.false p.sized p.spare (omega (arith, p.soon))
 
 pub pass-ends-spec : {M : Type 1} → statement M
 pass-ends-spec =

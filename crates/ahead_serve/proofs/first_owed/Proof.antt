@@ -4,7 +4,7 @@ use mathlib.Core.Logic.{⊎_elim}
 use Prim.Native.Nat.{◌-◌, ◌≤◌}
 use native.Mathlib.Omega.{arith}
 use borrow.Author.Rules.{rules}
-use Rattle.ahead_serve.proofs.Searching.{Searching, searching-none, searching-better, searching-passed, searching-all}
+use Rattle.ahead_serve.proofs.Searching.{Searching, searching_none, searching_better, searching_passed, searching_all}
 use Rattle.ahead_serve.proofs.first_owed.Statement.{statement}
 use Rattle.ahead_serve.proofs.first_owed.Tie as tie
 
@@ -15,7 +15,7 @@ abbrev decreases-loop : tie.decreases-loop
 decreases-loop ranks owed used first₀ least₀ i₀ first least i = used - i
 
 loop-holds : tie.Need-loop-init invariant-loop decreases-loop
-loop-holds c = (omega arith, searching-none)
+loop-holds c = (omega arith, searching_none)
 
 mul-if1 : tie.Need-overflow-mul-if1 invariant-loop decreases-loop
 mul-if1 c = search rules
@@ -48,15 +48,15 @@ loop-again c =
     let s = l.loop.invariant.1 in (
       omega arith,
       ⊎_elim
-          (λ v. rw (v.4, v.5) (searching-better s v.0.taken v.2.taken (omega arith)))
+          (λ v. rw (v.4, v.5) (searching_better s v.0.taken v.2.taken (omega arith)))
           (⊎_elim
-          (λ v. rw (v.3, v.4) (searching-passed s (λ h. absurd (omega (arith, v.2.left)))))
-          (λ v. rw (v.1, v.2) (searching-passed s (λ h. v.0.left))))
+          (λ v. rw (v.3, v.4) (searching_passed s (λ h. absurd (omega (arith, v.2.left)))))
+          (λ v. rw (v.1, v.2) (searching_passed s (λ h. v.0.left))))
           c.if1.branch,
     )
 
 returns : tie.Need-returns invariant-loop decreases-loop
-returns c = searching-all c.before.loop.invariant.1 c.before.before.requires c.loop-test.false
+returns c = searching_all c.before.loop.invariant.1 c.before.before.requires c.loop-test.false
 
 pub first-owed-spec : {M : Type 1} → statement M
 first-owed-spec =

@@ -4,8 +4,8 @@ use Prim.Native.Nat.{◌-◌}
 use native.Mathlib.Omega.{arith}
 use lib.Dec.{eqb}
 use lib.ListN.{get_or}
-use Rattle.base_lists.specs.Tests.{cond-le}
-use Rattle.ahead_serve.proofs.Paying.{Paying, paying-none, paying-more, paying-all}
+use Rattle.base_lists.specs.Tests.{cond_le}
+use Rattle.ahead_serve.proofs.Paying.{Paying, paying_none, paying_more, paying_all}
 use Rattle.ahead_serve.proofs.pay_due.Statement.{statement}
 use borrow.Author.Rules.{rules}
 use Rattle.ahead_serve.proofs.pay_due.Tie as tie
@@ -17,7 +17,7 @@ abbrev decreases-loop : tie.decreases-loop
 decreases-loop owed₀ ends used at due₀ i₀ owed due i = used - i
 
 loop-holds : tie.Need-loop-init invariant-loop decreases-loop
-loop-holds c = paying-none
+loop-holds c = paying_none
 
 mul-own : tie.Need-overflow-mul-own invariant-loop decreases-loop
 mul-own c = search rules
@@ -45,7 +45,7 @@ sub-owed c =
     let d = c.before.before in
     let l = d.before.before.before.before in
     let a = l.before.args in
-    omega (arith, d.due-if.ensures, cond-le (eqb (get_or a.ends.now l.loop.i 0) a.at.0) (get_or l.loop.owed l.loop.i 0))
+    omega (arith, d.due-if.ensures, cond_le (eqb (get_or a.ends.now l.loop.i 0) a.at.0) (get_or l.loop.owed l.loop.i 0))
 
 mul-owed-2 : tie.Need-overflow-mul-owed-2 invariant-loop decreases-loop
 mul-owed-2 c = search rules
@@ -64,10 +64,10 @@ loop-again c =
     let d = c.before.before in
     let w = d.before.before.before in
     let l = w.before in
-    paying-more l.before.requires l.loop.invariant w.loop-test.true d.due-if.ensures (omega (arith, c.before.struct_known.given))
+    paying_more l.before.requires l.loop.invariant w.loop-test.true d.due-if.ensures (omega (arith, c.before.struct_known.given))
 
 returns : tie.Need-returns invariant-loop decreases-loop
-returns c = paying-all c.before.before.requires c.before.loop.invariant c.loop-test.false
+returns c = paying_all c.before.before.requires c.before.loop.invariant c.loop-test.false
 
 pub pay-due-spec : {M : Type 1} → statement M
 pay-due-spec =

@@ -2,19 +2,19 @@ use mathlib.Core.Path.{◌≡◌, refl, ap, ◌∙◌}
 use Prim.Native.Nat.{◌-◌, ◌≤◌, ◌<◌}
 use native.Mathlib.Omega.{arith}
 use lib.ListN.{length, get_or}
-use Rattle.spec_model.specs.Entries.{freeEntry}
-use Rattle.spec_model.specs.Tables.{withEntries}
+use Rattle.spec_model.specs.Entries.{free_entry}
+use Rattle.spec_model.specs.Tables.{with_entries}
 use Rattle.law_steps.specs.Settled.{after_free}
-use Rattle.table_queue.proofs.Known.{used-inside, used-rest}
+use Rattle.table_queue.proofs.Known.{used_inside, used_rest}
 use Rattle.beacon_share.specs.Shares.{granted}
-use Rattle.beacon_advance.specs.Zipped.{zipped, zipped-more, zipped-all}
-use Rattle.beacon_advance.specs.Moving.{afterGrant, unmoved}
+use Rattle.beacon_advance.specs.Zipped.{zipped, zipped_more, zipped_all}
+use Rattle.beacon_advance.specs.Moving.{after_grant, unmoved}
 use borrow.Author.Rules.{rules}
 use Rattle.beacon_advance.proofs.advance.Statement.{statement}
 use Rattle.beacon_advance.proofs.advance.Tie as tie
 
 abbrev invariant-loop : tie.invariant-loop
-invariant-loop used s t i₀ next i = (i ≤ used) × (next ≡ withEntries t (zipped afterGrant i s.grants t.entries))
+invariant-loop used s t i₀ next i = (i ≤ used) × (next ≡ with_entries t (zipped after_grant i s.grants t.entries))
 
 abbrev decreases-loop : tie.decreases-loop
 decreases-loop used s t i₀ next i = used - i
@@ -37,11 +37,11 @@ element-copy-out-g c = search rules
 within : (c : tie.After-e invariant-loop decreases-loop) → c.before.before.loop.i < length c.before.before.before.args.t.entries
 within c =
     let s = c.before.before.before in
-    used-inside s.args.t s.well-formed.0 s.requires.used c.before.loop-test.true
+    used_inside s.args.t s.well-formed.0 s.requires.used c.before.loop-test.true
 
 -- its entry is still that of the table
 here : (c : tie.After-e invariant-loop decreases-loop) → (let l = c.before.before in
-    get_or l.loop.next.entries l.loop.i freeEntry ≡ get_or l.before.args.t.entries l.loop.i freeEntry)
+    get_or l.loop.next.entries l.loop.i free_entry ≡ get_or l.before.args.t.entries l.loop.i free_entry)
 here c =
     let l = c.before.before in
     let s = l.before in
@@ -72,8 +72,8 @@ loop-again c =
     let t = s.args.t in (
       omega arith,
       rw (c.after-grant.ensures, here e, l.loop.invariant.1)
-          (ap (withEntries t)
-          (zipped-more afterGrant s.args.t3.grants t.entries l.loop.i (granted 0 0) freeEntry s.requires.sized (within e))),
+          (ap (with_entries t)
+          (zipped_more after_grant s.args.t3.grants t.entries l.loop.i (granted 0 0) free_entry s.requires.sized (within e))),
     )
 
 returns : tie.Need-returns invariant-loop decreases-loop
@@ -82,9 +82,9 @@ returns c =
     let s = l.before in
     let t = s.args.t in
     l.loop.invariant.1
-    ∙ ap (withEntries t)
-    (zipped-all afterGrant (λ g. after_free g.piece.0 g.extra.0) l.loop.i s.args.t3.grants t.entries s.requires.sized
-    (used-rest t s.well-formed.0 s.requires.used l.loop.invariant.0 c.loop-test.false))
+    ∙ ap (with_entries t)
+    (zipped_all after_grant (λ g. after_free g.piece.0 g.extra.0) l.loop.i s.args.t3.grants t.entries s.requires.sized
+    (used_rest t s.well-formed.0 s.requires.used l.loop.invariant.0 c.loop-test.false))
 
 pub advance-spec : {M : Type 1} → statement M
 advance-spec =

@@ -4,7 +4,7 @@ use mathlib.Core.Path.{sym, subst}
 use Prim.Native.Nat.{◌+◌, ◌-◌}
 use native.Mathlib.Omega.{arith}
 use borrow.Author.Rules.{rules}
-use Rattle.beacon_extras.specs.Extras.{Added, added_none, added-small, added-parts, added_more, added-all}
+use Rattle.beacon_extras.specs.Extras.{Added, added_none, added_small, added_parts, added_more, added_all}
 use Rattle.beacon_extras.proofs.extras_pass.Statement.{statement}
 use Rattle.beacon_extras.proofs.extras_pass.Tie as tie
 
@@ -36,7 +36,7 @@ add-need-requires c κs =
     let z = l.before in
     let p = z.requires in
     let a = l.loop.invariant in
-    (added-small z.args.t1 p.0 p.1.0 p.1.1 a, added-parts z.args.t1 p.0 p.1.0 p.1.1 a w.loop-test.true)
+    (added_small z.args.t1 p.0 p.1.0 p.1.1 a, added_parts z.args.t1 p.0 p.1.0 p.1.1 a w.loop-test.true)
 
 add-i : tie.Need-overflow-add-i invariant-loop decreases-loop
 add-i c = search rules
@@ -58,7 +58,7 @@ passes-requires c κs =
     let l = c.before.before.before in
     let z = l.before in
     let p = z.requires in
-    added-small z.args.t1 p.0 p.1.0 p.1.1 l.loop.invariant
+    added_small z.args.t1 p.0 p.1.0 p.1.1 l.loop.invariant
 
 returns : tie.Need-returns invariant-loop decreases-loop
 returns c =
@@ -66,7 +66,7 @@ returns c =
     let l = e.before in
     let z = l.before in
     let p = z.requires in
-    added-all z.args.t1 p.0 p.1.0 p.1.1 l.loop.invariant e.loop-test.false c.passes.ensures
+    added_all z.args.t1 p.0 p.1.0 p.1.1 l.loop.invariant e.loop-test.false c.passes.ensures
 
 pub extras-pass-spec : {M : Type 1} → statement M
 extras-pass-spec =

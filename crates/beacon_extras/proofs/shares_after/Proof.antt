@@ -4,15 +4,15 @@ use mathlib.Core.Bool.{Bool, true, false}
 use borrow.Author.Rules.{rules}
 use Rattle.spec_model.specs.Tables.{held_of}
 use Rattle.spec_model.specs.declared.Table.{Table}
-use Rattle.spec_rules.specs.Share.{extrasPass}
-use Rattle.table_queue.specs.Queues.{queued-bounded}
-use Rattle.beacon_share.specs.Shares.{sharesAmong, shares-right}
+use Rattle.spec_rules.specs.Share.{extras_pass}
+use Rattle.table_queue.specs.Queues.{queued_bounded}
+use Rattle.beacon_share.specs.Shares.{shares_among, shares_right}
 use Rattle.beacon_extras.proofs.shares_after.Statement.{statement}
 use Rattle.beacon_extras.proofs.shares_after.Tie as tie
 
 -- those who take part, by what the test says
-told : (t : Table) {b : Bool} → b ≡ extrasPass t.frame (held_of t) → sharesAmong b t ≡ sharesAmong (extrasPass t.frame (held_of t)) t
-told t e = ap (λ b. sharesAmong b t) e
+told : (t : Table) {b : Bool} → b ≡ extras_pass t.frame (held_of t) → shares_among b t ≡ shares_among (extras_pass t.frame (held_of t)) t
+told t e = ap (λ b. shares_among b t) e
 
 extras-pass-requires : tie.Need-extras-pass-requires
 extras-pass-requires c κs = (c.requires.0, (c.requires.1.0.used, c.requires.1.1))
@@ -24,14 +24,14 @@ returns c =
     z.requires.1.1 ∙ told z.args.t (sym c.if1.true ∙ p.extras-pass.ensures)
 
 shares-of-requires : tie.Need-shares-of-requires
-shares-of-requires c κs = (let z = c.before.before in queued-bounded z.requires.0 z.requires.1.0)
+shares-of-requires c κs = (let z = c.before.before in queued_bounded z.requires.0 z.requires.1.0)
 
 returns-2 : tie.Need-returns-2
 returns-2 c =
     let e = c.before in
     let p = e.before in
     let z = p.before in
-    c.shares_of.ensures ∙ shares-right false z.args.t z.requires.0 z.requires.1.0
+    c.shares_of.ensures ∙ shares_right false z.args.t z.requires.0 z.requires.1.0
     ∙ told z.args.t (sym e.if1.false ∙ p.extras-pass.ensures)
 
 pub shares-after-spec : {M : Type 1} → statement M

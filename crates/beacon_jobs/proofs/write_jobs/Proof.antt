@@ -4,26 +4,26 @@ use Prim.Native.Nat.{ℕ, ◌*◌, ◌-◌, ◌≤◌, ◌<◌}
 use native.Mathlib.Omega.{arith}
 use lib.ListN.{length, drop, get_or}
 use Rattle.spec_lists.specs.All.{All}
-use Rattle.base_lists.specs.All.{all-at}
-use Rattle.spec_model.specs.Entries.{freeEntry}
-use Rattle.spec_model.specs.Frames.{slotsIn, headerIn}
+use Rattle.base_lists.specs.All.{all_at}
+use Rattle.spec_model.specs.Entries.{free_entry}
+use Rattle.spec_model.specs.Frames.{slots_in, header_in}
 use Rattle.spec_model.specs.Tables.{places}
 use Rattle.spec_model.specs.declared.Entry.{Entry}
-use Rattle.spec_rules.specs.Records.{recordWords, words_of}
-use Rattle.law_model.specs.Frames.{header-less}
+use Rattle.spec_rules.specs.Records.{record_words, words_of}
+use Rattle.law_model.specs.Frames.{header_less}
 use Rattle.spec_rules.specs.Calls.{plan_of}
-use Rattle.law_steps.specs.Ranks.{rank, rankMost}
-use Rattle.beacon_share.specs.Shares.{grantAt, sharingOf, grantOf, grant-found}
+use Rattle.law_steps.specs.Ranks.{rank, rank_most}
+use Rattle.beacon_share.specs.Shares.{grant_at, sharing_of, grant_of, grant_found}
 use Rattle.table_places.proofs.Known.{inside}
 use Rattle.beacon_order.specs.Listed.{order_of}
-use Rattle.beacon_order.specs.TiePlaces.{ranks-most}
-use Rattle.beacon_plan.specs.Rows.{Rows, rowPlan}
-use Rattle.beacon_plan.specs.Needs.{needRows}
-use Rattle.beacon_jobs.specs.Needs.{needBy, Narrow}
-use Rattle.beacon_jobs.specs.Limits.{narrow-places}
+use Rattle.beacon_order.specs.TiePlaces.{ranks_most}
+use Rattle.beacon_plan.specs.Rows.{Rows, row_plan}
+use Rattle.beacon_plan.specs.Needs.{need_rows}
+use Rattle.beacon_jobs.specs.Needs.{need_by, Narrow}
+use Rattle.beacon_jobs.specs.Limits.{narrow_places}
 use Rattle.beacon_jobs.specs.Listing.{Listed, entry_at, place_inside}
-use Rattle.beacon_jobs.specs.Making.{Making, Made, making-starts, making-more, making-ends}
-use Rattle.beacon_jobs.specs.JobRows.{order-listed, plan-made, spare_made, sized-made}
+use Rattle.beacon_jobs.specs.Making.{Making, Made, making_starts, making_more, making_ends}
+use Rattle.beacon_jobs.specs.JobRows.{order_listed, plan_made, spare_made, sized_made}
 use borrow.Author.Rules.{rules}
 use Rattle.beacon_jobs.proofs.write_jobs.Statement.{statement}
 use Rattle.beacon_jobs.proofs.write_jobs.Tie as tie
@@ -38,7 +38,7 @@ ordered-requires : tie.Need-ordered-requires invariant-loop decreases-loop
 ordered-requires c κs =
     let s = c.before.before in
     let k = s.requires.0.1 in
-    (k.used.0, subst (All (λ r. r ≤ rankMost)) (sym k.ranks) (ranks-most s.args.t1 s.requires.0.0))
+    (k.used.0, subst (All (λ r. r ≤ rank_most)) (sym k.ranks) (ranks_most s.args.t1 s.requires.0.0))
 
 -- the order is that of the table's ranks
 abbrev start : tie.After-ordered invariant-loop decreases-loop → tie.Start invariant-loop decreases-loop
@@ -49,7 +49,7 @@ order : (c : tie.After-ordered invariant-loop decreases-loop) → (let s = start
 order c = (let s = start c in c.ordered.ensures ∙ ap (λ rs. order_of rs s.args.q.used) s.pre.0.1.ranks)
 
 listed : (c : tie.After-ordered invariant-loop decreases-loop) → Listed c.ordered.result
-listed c = (let s = start c in order-listed s.args.t1 s.pre.0.0 s.pre.0.1.used (order c))
+listed c = (let s = start c in order_listed s.args.t1 s.pre.0.0 s.pre.0.1.used (order c))
 
 free-entry-requires : tie.Need-free-entry-requires invariant-loop decreases-loop
 free-entry-requires c κs = search rules
@@ -58,7 +58,7 @@ loop-holds : tie.Need-loop-init invariant-loop decreases-loop
 loop-holds c =
     let f = c.before in
     let s = start f.before.before in
-    rw f.free-entry.ensures (making-starts s.args.t1 s.pre.0.0 _)
+    rw f.free-entry.ensures (making_starts s.args.t1 s.pre.0.0 _)
 
 -- the order that a turn goes by
 abbrev by : tie.At-loop invariant-loop decreases-loop → tie.After-ordered invariant-loop decreases-loop
@@ -113,13 +113,13 @@ module _ (c : tie.After-e invariant-loop decreases-loop) where
   reads : at < length entry.args.t1.entries
   reads = inside entry.args.t1 entry.good.0 (listed-inside c.before)
 
-  got : grantAt entry.args.t3 at ≡ grantOf (sharingOf entry.args.t1) entry.args.t1.entries own
-  got = grant-found entry.args.t1 entry.pre.1.0 at reads
+  got : grant_at entry.args.t3 at ≡ grant_of (sharing_of entry.args.t1) entry.args.t1.entries own
+  got = grant_found entry.args.t1 entry.pre.1.0 at reads
 
-  narrow : Narrow (sharingOf entry.args.t1) entry.args.t1.entries own
+  narrow : Narrow (sharing_of entry.args.t1) entry.args.t1.entries own
   narrow =
       let t = entry.args.t1 in
-      all-at (Narrow (sharingOf t) t.entries) t.entries freeEntry (narrow-places t entry.pre.0.0) at reads
+      all_at (Narrow (sharing_of t) t.entries) t.entries free_entry (narrow_places t entry.pre.0.0) at reads
 
 need-of-requires : tie.Need-need-of-requires invariant-loop decreases-loop
 need-of-requires c κs = (let e = c.before.before in rw (got e) (narrow e))
@@ -167,8 +167,8 @@ loop-again c =
     let e = j.before in
     let l = turn e in
     let o = by l in
-    let need = n.need-of.ensures ∙ ap (λ g. needBy g (own e)) (got e) in
-    making-more (entry e).args.t1 o.ordered.result (listed o) l.loop.inv e.before.before.loop-test.true
+    let need = n.need-of.ensures ∙ ap (λ g. need_by g (own e)) (got e) in
+    making_more (entry e).args.t1 o.ordered.result (listed o) l.loop.inv e.before.before.loop-test.true
     refl j.job-length.ensures c.job-count.ensures need
 
 -- the rows are the table's
@@ -176,17 +176,17 @@ made : (c : tie.After-loop invariant-loop decreases-loop) → (let l = c.before.
     Made (start o).args.t1 o.ordered.result l.names l.lengths l.counts l.each)
 made c =
     let o = by c.before in
-    making-ends (start o).args.t1 o.ordered.result (listed o) c.before.loop.invariant c.loop-test.false
+    making_ends (start o).args.t1 o.ordered.result (listed o) c.before.loop.invariant c.loop-test.false
 
 -- and so is their plan
 planned : (c : tie.After-loop invariant-loop decreases-loop) → (let l = c.before.loop in
     let t = (start (by c.before)).args.t1 in
-    let nss = needRows l.counts l.each in
-    Rows (slotsIn t.frame) l.names l.lengths nss × (rowPlan (slotsIn t.frame) (headerIn t.frame) l.names l.lengths nss ≡ plan_of t))
+    let nss = need_rows l.counts l.each in
+    Rows (slots_in t.frame) l.names l.lengths nss × (row_plan (slots_in t.frame) (header_in t.frame) l.names l.lengths nss ≡ plan_of t))
 planned c =
     let o = by c.before in
     let s = start o in
-    plan-made s.args.t1 s.pre.0.0 s.pre.0.1.used (order o) (made c)
+    plan_made s.args.t1 s.pre.0.0 s.pre.0.1.used (order o) (made c)
 
 write-plan-requires : tie.Need-write-plan-requires invariant-loop decreases-loop
 write-plan-requires c κs =
@@ -196,7 +196,7 @@ write-plan-requires c κs =
     let t = s.args.t1 in
     let w = s.pre.0.0 in
     let u = s.pre.0.1.used in
-    (((planned l).0, (search rules, omega (arith, header-less w.setting))), (spare_made t w u (order o) (made l), sized-made t w u (order o) (made l)))
+    (((planned l).0, (search rules, omega (arith, header_less w.setting))), (spare_made t w u (order o) (made l), sized_made t w u (order o) (made l)))
 
 same_length : tie.Need-same-length invariant-loop decreases-loop
 same_length c = search rules
@@ -208,7 +208,7 @@ returns c =
     let s = start (by l.before) in
     let plan = (planned l).1 in
     let e = p.write-plan.ensures in
-    (e.0 ∙ ap length plan, e.1.1 ∙ ap (λ rs. words_of rs ++ drop (recordWords * p.write-plan.result) s.args.plan.now) plan)
+    (e.0 ∙ ap length plan, e.1.1 ∙ ap (λ rs. words_of rs ++ drop (record_words * p.write-plan.result) s.args.plan.now) plan)
 
 pub write-jobs-spec : {M : Type 1} → statement M
 write-jobs-spec =

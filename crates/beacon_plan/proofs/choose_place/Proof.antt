@@ -7,15 +7,15 @@ use native.Mathlib.Omega.{arith}
 use lib.ListN.{length, drop, get_or}
 use borrow.Author.Rules.{rules}
 use Rattle.spec_lists.specs.All.{All}
-use Rattle.base_lists.specs.All.{all-at}
-use Rattle.law_model.specs.Frames.{mostSlots}
-use Rattle.beacon_plan.specs.Places.{noRelease, placeFrom, chosenAt, place-better, place_kept, due-soon, due-never, place_end}
+use Rattle.base_lists.specs.All.{all_at}
+use Rattle.law_model.specs.Frames.{most_slots}
+use Rattle.beacon_plan.specs.Places.{no_release, place_from, chosen_at, place_better, place_kept, due_soon, due_never, place_end}
 use Rattle.beacon_plan.proofs.choose_place.Statement.{statement}
 use Rattle.beacon_plan.proofs.choose_place.Tie as tie
 
 abbrev invariant-loop : tie.invariant-loop
 invariant-loop t rows lengths releases place₀ best₀ i₀ place best i =
-    (i ≤ rows) × ((best ≤ noRelease) × (chosenAt t.0 lengths releases ≡ placeFrom t.0 i place best (drop i lengths) (drop i releases)))
+    (i ≤ rows) × ((best ≤ no_release) × (chosen_at t.0 lengths releases ≡ place_from t.0 i place best (drop i lengths) (drop i releases)))
 
 abbrev decreases-loop : tie.decreases-loop
 decreases-loop t rows lengths releases place₀ best₀ i₀ place best i = rows - i
@@ -46,7 +46,7 @@ add-due c =
     let w = c.before.before.before.before in
     let l = w.before in
     let s = l.before in
-    let short = all-at (λ T. T ≤ mostSlots) s.args.lengths.now 0 s.requires.0.1.1 l.loop.i (inside w).0 in
+    let short = all_at (λ T. T ≤ most_slots) s.args.lengths.now 0 s.requires.0.1.1 l.loop.i (inside w).0 in
     record { fits = omega (arith, short, s.requires.0.0, c.before.if1.true) }
 
 add-i : tie.Need-overflow-add-i invariant-loop decreases-loop
@@ -72,8 +72,8 @@ loop-again c =
           (λ w. (
             omega (arith, w.2.taken, w.4, l.loop.invariant.1.0),
             so_far
-                ∙ place-better a.t.0 i p d (r + T) a.lengths.now a.releases.now h.0 h.1
-                (due-soon a.t.0 T r w.0.taken) w.2.taken
+                ∙ place_better a.t.0 i p d (r + T) a.lengths.now a.releases.now h.0 h.1
+                (due_soon a.t.0 T r w.0.taken) w.2.taken
                 ∙ rw (w.3, w.4),
           ))
           (⊎_elim
@@ -81,14 +81,14 @@ loop-again c =
             omega (arith, w.4, l.loop.invariant.1.0),
             so_far
                 ∙ place_kept a.t.0 i p d (r + T) a.lengths.now a.releases.now h.0 h.1
-                (due-soon a.t.0 T r w.0.taken) w.2.left
+                (due_soon a.t.0 T r w.0.taken) w.2.left
                 ∙ rw (w.3, w.4),
           ))
           (λ w. (
             omega (arith, w.2, l.loop.invariant.1.0),
             so_far
-                ∙ place_kept a.t.0 i p d noRelease a.lengths.now a.releases.now h.0 h.1
-                (due-never a.t.0 T r w.0.left) l.loop.invariant.1.0
+                ∙ place_kept a.t.0 i p d no_release a.lengths.now a.releases.now h.0 h.1
+                (due_never a.t.0 T r w.0.left) l.loop.invariant.1.0
                 ∙ rw (w.1, w.2),
           )))
           c.if1.branch,
@@ -100,8 +100,8 @@ returns c =
     let s = l.before in
     let a = s.args in
     let e : a.rows ≡ l.loop.i = omega arith in
-    let spare = subst (λ i. All (λ r. r ≡ noRelease) (drop i a.releases.now)) e s.requires.1.1.1 in
-    let soon : a.t.0 < noRelease = omega (arith, s.requires.0.0) in
+    let spare = subst (λ i. All (λ r. r ≡ no_release) (drop i a.releases.now)) e s.requires.1.1.1 in
+    let soon : a.t.0 < no_release = omega (arith, s.requires.0.0) in
     sym
     (l.loop.invariant.1.1
     ∙ place_end a.t.0 l.loop.i l.loop.place l.loop.best (drop l.loop.i a.lengths.now) soon l.loop.invariant.1.0 spare)

@@ -6,26 +6,26 @@ use Prim.Native.Nat.{◌-◌}
 use native.Mathlib.Omega.{arith}
 use lib.ListN.{length, length-map}
 use borrow.Author.Rules.{rules}
-use Rattle.base_lists.specs.Spare.{Filling, filling-none, filling-more, filling-all}
+use Rattle.base_lists.specs.Spare.{Filling, filling_none, filling_more, filling_all}
 use Rattle.spec_model.specs.Tables.{places}
-use Rattle.beacon_plan.specs.Heads.{firstLeft, head_at, heads-spare}
+use Rattle.beacon_plan.specs.Heads.{first_left, head_at, heads_spare}
 use Rattle.beacon_plan.proofs.fill_heads.Statement.{statement}
 use Rattle.beacon_plan.proofs.fill_heads.Tie as tie
 
 abbrev invariant-loop : tie.invariant-loop
-invariant-loop heads₀ rows rules i₀ heads i = Filling 16 (map firstLeft rules) rows heads i
+invariant-loop heads₀ rows rules i₀ heads i = Filling 16 (map first_left rules) rows heads i
 
 abbrev decreases-loop : tie.decreases-loop
 decreases-loop heads₀ rows rules i₀ heads i = rows - i
 
 -- how many heads there are
-heads-sized : (z : tie.Start invariant-loop decreases-loop) → length (map firstLeft z.args.needs.now) ≡ places
-heads-sized z = length-map z.args.needs.now firstLeft ∙ z.requires.1.0
+heads-sized : (z : tie.Start invariant-loop decreases-loop) → length (map first_left z.args.needs.now) ≡ places
+heads-sized z = length-map z.args.needs.now first_left ∙ z.requires.1.0
 
 loop-holds : tie.Need-loop-init invariant-loop decreases-loop
 loop-holds c =
     let a = c.args in
-    subst (λ hs. Filling 16 (map firstLeft a.needs.now) a.rows hs 0) (sym c.requires.0) (filling-none (heads-sized c))
+    subst (λ hs. Filling 16 (map first_left a.needs.now) a.rows hs 0) (sym c.requires.0) (filling_none (heads-sized c))
 
 mul-row : tie.Need-overflow-mul-row invariant-loop decreases-loop
 mul-row c = search rules
@@ -54,13 +54,13 @@ loop-again c =
     let s = l.before in
     let more = c.before.before.loop-test.true in
     let at = head_at s.args.needs.now l.loop.i in
-    filling-more l.loop.invariant 0 (omega (arith, heads-sized s)) more (c.first-left.ensures ∙ sym at)
+    filling_more l.loop.invariant 0 (omega (arith, heads-sized s)) more (c.first-left.ensures ∙ sym at)
 
 returns : tie.Need-returns invariant-loop decreases-loop
 returns c =
     let l = c.before in
     let s = l.before in
-    filling-all l.loop.invariant c.loop-test.false (heads-spare s.args.rows s.args.needs.now s.requires.1.1.1)
+    filling_all l.loop.invariant c.loop-test.false (heads_spare s.args.rows s.args.needs.now s.requires.1.1.1)
 
 pub fill-heads-spec : {M : Type 1} → statement M
 fill-heads-spec =

@@ -7,12 +7,12 @@ use native.Mathlib.Omega.{arith}
 use lib.ListN.{length, get_or, set}
 use lib.Seq.{set-get_or}
 use borrow.Author.Rules.{rules}
-use Rattle.beacon_plan.specs.Needs.{needsRow, fill_more}
+use Rattle.beacon_plan.specs.Needs.{needs_row, fill_more}
 use Rattle.beacon_plan.proofs.fill_row.Statement.{statement}
 use Rattle.beacon_plan.proofs.fill_row.Tie as tie
 
 abbrev invariant-loop : tie.invariant-loop
-invariant-loop needs₀ k count need n j₀ rules j = (j ≤ count) × (rules ≡ set needs₀ k (needsRow j need.0))
+invariant-loop needs₀ k count need n j₀ rules j = (j ≤ count) × (rules ≡ set needs₀ k (needs_row j need.0))
 
 abbrev decreases-loop : tie.decreases-loop
 decreases-loop needs₀ k count need n j₀ rules j = count - j
@@ -56,7 +56,7 @@ returns c =
     let l = c.before in
     let a = l.before.args in
     let j : l.loop.j ≡ a.count = omega arith in
-    l.loop.invariant.1 ∙ ap (λ m. set a.needs.now a.k (needsRow m a.need.0)) j
+    l.loop.invariant.1 ∙ ap (λ m. set a.needs.now a.k (needs_row m a.need.0)) j
 
 pub fill-row-spec : {M : Type 1} → statement M
 fill-row-spec =

@@ -7,13 +7,13 @@ use native.Mathlib.Omega.{arith}
 use lib.ListN.{length, drop}
 use borrow.Author.Rules.{rules}
 use denote.Builtin.{u32}
-use Rattle.beacon_plan.specs.Heads.{firstLeft, left_here, left-later, left-none}
+use Rattle.beacon_plan.specs.Heads.{first_left, left_here, left_later, left_none}
 use Rattle.base_lists.proofs.Known.{sized}
 use Rattle.beacon_plan.proofs.first_left.Statement.{statement}
 use Rattle.beacon_plan.proofs.first_left.Tie as tie
 
 abbrev invariant-loop : tie.invariant-loop
-invariant-loop row j₀ j = (j ≤ 16) × (firstLeft row ≡ j + firstLeft (drop j row))
+invariant-loop row j₀ j = (j ≤ 16) × (first_left row ≡ j + first_left (drop j row))
 
 abbrev decreases-loop : tie.decreases-loop
 decreases-loop row j₀ j = 16 - j
@@ -40,13 +40,13 @@ loop-less : tie.Need-loop-smaller invariant-loop decreases-loop
 loop-less c = search rules
 
 loop-again : tie.Need-loop-preserved invariant-loop decreases-loop
-loop-again c = (omega arith, c.before.before.loop.invariant.1 ∙ left-later _ _ (inside c.before) c.if1.false)
+loop-again c = (omega arith, c.before.before.loop.invariant.1 ∙ left_later _ _ (inside c.before) c.if1.false)
 
 returns-2 : tie.Need-returns-2 invariant-loop decreases-loop
 returns-2 c =
     let e : c.before.loop.j ≡ 16 = omega arith in
     sym e
-    ∙ left-none _ _ (omega (arith, sized u32 16 c.before.before.args.t1 c.before.before.well-formed.0))
+    ∙ left_none _ _ (omega (arith, sized u32 16 c.before.before.args.t1 c.before.before.well-formed.0))
     ∙ sym c.before.loop.invariant.1
 
 pub first-left-spec : {M : Type 1} → statement M

@@ -7,9 +7,9 @@ use native.Mathlib.Omega.{arith}
 use lib.ListN.{length, drop, get_or}
 use borrow.Author.Rules.{rules}
 use Rattle.spec_lists.specs.All.{All}
-use Rattle.base_lists.specs.All.{all-at}
+use Rattle.base_lists.specs.All.{all_at}
 use Rattle.beacon_plan.specs.Rows.{Length}
-use Rattle.beacon_plan.specs.Next.{next_of, next-most, next-step, next-end, after-most}
+use Rattle.beacon_plan.specs.Next.{next_of, next_most, next_step, next_end, after_most}
 use Rattle.beacon_plan.proofs.next_release.Statement.{statement}
 use Rattle.beacon_plan.proofs.next_release.Tie as tie
 
@@ -27,10 +27,10 @@ here : (c : tie.In-loop invariant-loop decreases-loop) → (let a = c.before.bef
     Length a.b.0 (get_or a.lengths.now c.before.loop.i 0))
 here c =
     let a = c.before.before.args in
-    all-at (Length a.b.0) a.lengths.now 0 c.before.before.requires.0.1.1 c.before.loop.i (inside c)
+    all_at (Length a.b.0) a.lengths.now 0 c.before.before.requires.0.1.1 c.before.loop.i (inside c)
 
 loop-holds : tie.Need-loop-init invariant-loop decreases-loop
-loop-holds c = (omega arith, (omega arith, omega (arith, next-most c.args.b.0 c.args.t.0 c.args.lengths.now)))
+loop-holds c = (omega arith, (omega arith, omega (arith, next_most c.args.b.0 c.args.t.0 c.args.lengths.now)))
 
 mul-length : tie.Need-overflow-mul-length invariant-loop decreases-loop
 mul-length c = search rules
@@ -52,7 +52,7 @@ mul-release c =
     let w = c.before.before in
     let l = w.before in
     let a = l.before.args in
-    record { fits = omega (arith, (here w).most, after-most (get_or a.lengths.now l.loop.i 0) a.t.0) }
+    record { fits = omega (arith, (here w).most, after_most (get_or a.lengths.now l.loop.i 0) a.t.0) }
 
 smaller-requires : tie.Need-smaller-requires invariant-loop decreases-loop
 smaller-requires c κs = search rules
@@ -68,7 +68,7 @@ loop-again c =
     let w = c.before.before.before in
     let l = w.before in
     let a = l.before.args in
-    let s = next-step a.b.0 a.t.0 l.loop.i l.loop.next.0 a.lengths.now (inside w) in
+    let s = next_step a.b.0 a.t.0 l.loop.i l.loop.next.0 a.lengths.now (inside w) in
     (omega arith, (omega arith, l.loop.invariant.1.1 ∙ s ∙ rw c.smaller.ensures))
 
 returns : tie.Need-returns invariant-loop decreases-loop
@@ -78,7 +78,7 @@ returns c =
     let e : a.rows ≡ l.loop.i = omega arith in
     let spare = subst (λ i. All (λ T. T ≡ a.b.0) (drop i a.lengths.now)) e l.before.requires.1.1.1 in
     sym (l.loop.invariant.1.1
-    ∙ next-end a.b.0 a.t.0 l.loop.i l.loop.next.0 a.lengths.now l.before.requires.0.0 spare l.loop.invariant.1.0)
+    ∙ next_end a.b.0 a.t.0 l.loop.i l.loop.next.0 a.lengths.now l.before.requires.0.0 spare l.loop.invariant.1.0)
 
 pub next-release-spec : {M : Type 1} → statement M
 next-release-spec =

@@ -4,12 +4,12 @@ use native.Mathlib.Nat.{mul-le-mul}
 use native.Mathlib.Omega.{arith}
 use borrow.Author.Tests.{le-leb, lt-leb}
 use borrow.Author.Rules.{rules}
-use Rattle.beacon_plan.specs.Places.{releaseOf}
+use Rattle.beacon_plan.specs.Places.{release_of}
 use Rattle.beacon_plan.proofs.release_of.Statement.{statement}
 use Rattle.beacon_plan.proofs.release_of.Tie as tie
 
 returns : tie.Need-returns
-unfolding releaseOf
+unfolding release_of
 returns c = rw (le-leb 16 _ c.if1.true)
 
 cast-t4 : tie.Need-overflow-cast-t4
@@ -22,7 +22,7 @@ mul-t5 c =
     record { fits = omega (arith, mul-le-mul l e.before.requires) }
 
 returns-2 : tie.Need-returns-2
-unfolding releaseOf
+unfolding release_of
 returns-2 c = rw (lt-leb 16 _ c.before.if1.false)
 
 pub release-of-spec : {M : Type 1} → statement M

@@ -6,9 +6,9 @@ use native.Mathlib.Omega.{arith}
 use lib.ListN.{length, get_or}
 use borrow.Author.Rules.{rules}
 use Rattle.base_lists.specs.All.{all-at}
-use Rattle.law_model.specs.Frames.{mostSlots}
+use Rattle.law_model.specs.Frames.{most_slots}
 use Rattle.beacon_plan.specs.RowLaws.{in_row}
-use Rattle.beacon_plan.specs.Kept.{headNeed, firsts-changed, firsts_same}
+use Rattle.beacon_plan.specs.Kept.{head_need, firsts_changed, firsts_same}
 use Rattle.beacon_plan.proofs.run_job.Statement.{statement}
 use Rattle.beacon_plan.proofs.run_job.Tie as tie
 
@@ -17,7 +17,7 @@ abbrev number : tie.Start → ℕ
 number z = get_or z.args.heads.now z.args.i 0
 
 abbrev need : tie.Start → ℕ
-need z = headNeed z.args.left.now z.args.heads.now z.args.i
+need z = head_need z.args.left.now z.args.heads.now z.args.i
 
 row : (z : tie.Start) → z.args.i < length z.args.left.now
 row z = omega (arith, z.requires.0.0, z.requires.1.0.0)
@@ -90,7 +90,7 @@ element-copy-out-t35 c = search rules
 release-of-requires : tie.Need-release-of-requires
 release-of-requires c κs =
     let z = c.before.before.before.before.before.before.before in
-    all-at (λ T. T ≤ mostSlots) z.args.lengths.now 0 z.requires.0.1.1 z.args.i (omega (arith, z.requires.0))
+    all-at (λ T. T ≤ most_slots) z.args.lengths.now 0 z.requires.0.1.1 z.args.i (omega (arith, z.requires.0))
 
 mul-releases : tie.Need-overflow-mul-releases
 mul-releases c = search rules
@@ -106,7 +106,7 @@ returns c =
       s.smaller.ensures,
       (
         refl,
-        firsts-changed z.requires.1.1.0 z.args.i (number z) (need z - s.smaller.result) (row z) f.first-left.ensures
+        firsts_changed z.requires.1.1.0 z.args.i (number z) (need z - s.smaller.result) (row z) f.first-left.ensures
             c.release-of.ensures refl refl,
       ),
     )

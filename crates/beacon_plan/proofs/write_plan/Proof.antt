@@ -6,14 +6,14 @@ use Prim.Native.Nat.{◌≤◌, ◌+◌}
 use native.Mathlib.Omega.{arith}
 use lib.ListN.{replicate}
 use borrow.Author.Rules.{rules}
-use Rattle.base_lists.specs.All.{all-at}
-use Rattle.law_model.specs.Frames.{mostSlots}
+use Rattle.base_lists.specs.All.{all_at}
+use Rattle.law_model.specs.Frames.{most_slots}
 use Rattle.beacon_plan.specs.Rows.{Padded}
-use Rattle.beacon_plan.specs.Heads.{firstLeft, heads-padded}
-use Rattle.beacon_plan.specs.Kept.{firsts-padded, spared-less}
-use Rattle.beacon_plan.specs.Next.{next-same}
+use Rattle.beacon_plan.specs.Heads.{first_left, heads_padded}
+use Rattle.beacon_plan.specs.Kept.{firsts_padded, spared_less}
+use Rattle.beacon_plan.specs.Next.{next_same}
 use Rattle.beacon_plan.specs.Steps.{lengths_short, begin, finish}
-use Rattle.beacon_plan.specs.Steps.{idle-less, idle-step, job-less, job-step}
+use Rattle.beacon_plan.specs.Steps.{idle_less, idle_step, job_less, job_step}
 use Rattle.beacon_plan.proofs.write_plan.Proof.Turn.{Inv-loop, μ-loop, entry, end, Ts, given, rows-sized, made-padded, few, spare}
 use Rattle.beacon_plan.proofs.write_plan.Proof.Turn.{at, within, ahead, turn, place, number, chosen, needs-some, job, ran, run, idle}
 use Rattle.beacon_plan.proofs.write_plan.Statement.{statement}
@@ -33,9 +33,9 @@ fill-releases-requires c κs =
     let h = c.before.before in
     let f = h.before.before.before in
     let z = f.before.before.before.before in
-    let heads = h.fill-heads.ensures ∙ ap (map firstLeft) f.fill-rows.ensures in
+    let heads = h.fill-heads.ensures ∙ ap (map first_left) f.fill-rows.ensures in
     let g = given z in
-    ((refl, (g.lengths, lengths_short g)), subst (Padded z.args.rows 16) (sym heads) (heads-padded z.args.rows _ (made-padded z)))
+    ((refl, (g.lengths, lengths_short g)), subst (Padded z.args.rows 16) (sym heads) (heads_padded z.args.rows _ (made-padded z)))
 
 blank-pen-requires : tie.Need-blank-pen-requires Inv-loop μ-loop
 blank-pen-requires c κs = search rules
@@ -66,7 +66,7 @@ choose-place-requires c κs =
     let l = at w in
     let g = given (entry l) in (
       (omega (arith, w.if1.true, g.short), (g.lengths, lengths_short g)),
-      firsts-padded l.loop.inv.1.0.0 l.loop.inv.1.0.1 g.lengths l.loop.inv.0.rows (entry l).pre.1.0.0,
+      firsts_padded l.loop.inv.1.0.0 l.loop.inv.1.0.1 g.lengths l.loop.inv.0.rows (entry l).pre.1.0.0,
     )
 
 mul-j : tie.Need-overflow-mul-j Inv-loop μ-loop
@@ -112,7 +112,7 @@ loop-less c =
     let s = run c.before.before in
     let o = job s in
     rw s.run-job.ensures.1.0 (
-    job-less (turn o).loop.inv.0 (within o.before).if1.taken (place o) (number o) s.run-job.result.0 (ran s).0
+    job_less (turn o).loop.inv.0 (within o.before).if1.taken (place o) (number o) s.run-job.result.0 (ran s).0
     o.if2.taken (chosen o).1 (chosen o).0
     )
 
@@ -128,28 +128,28 @@ loop-again c =
     let left = s.run-job.ensures.1.0 in
     let wrote = r.before.before.extend-run.ensures in (
       rw left (
-          job-step l.loop.inv.0 (within o.before).if1.taken (place o) (number o) n (ran s).0 o.if2.taken
+          job_step l.loop.inv.0 (within o.before).if1.taken (place o) (number o) n (ran s).0 o.if2.taken
           (chosen o).1 (chosen o).0 wrote.1 wrote.0
           ),
       (
         (
           s.run-job.ensures.1.1,
-          rw left (spared-less (entry l).args.rows l.loop.left (place o) (number o) n (needs-some o) l.loop.inv.1.0.1),
+          rw left (spared_less (entry l).args.rows l.loop.left (place o) (number o) n (needs-some o) l.loop.inv.1.0.1),
         ),
-        λ h. m ∙ next-same (end (entry l)) t (t + n) (Ts (entry l)) (omega arith) (omega (arith, h, m)),
+        λ h. m ∙ next_same (end (entry l)) t (t + n) (Ts (entry l)) (omega arith) (omega (arith, h, m)),
       ),
     )
 
 loop-less-2 : tie.Need-loop-smaller-2 Inv-loop μ-loop
 loop-less-2 c =
     let w = within c.before in
-    idle-less (at w).loop.inv.0 w.if1.taken c.before.before.before.next-after.ensures
+    idle_less (at w).loop.inv.0 w.if1.taken c.before.before.before.next-after.ensures
 
 loop-again-2 : tie.Need-loop-preserved-2 Inv-loop μ-loop
 loop-again-2 c =
     let w = within c.before in
     let l = at w in (
-      idle-step l.loop.inv.0 w.if1.taken c.before.before.before.next-after.ensures (idle c),
+      idle_step l.loop.inv.0 w.if1.taken c.before.before.before.next-after.ensures (idle c),
       (l.loop.inv.1.0, λ h. absurd (omega arith)),
     )
 

@@ -1,9 +1,9 @@
 use native.Mathlib.Omega.{arith}
 use borrow.Author.Tests.{lt-ltb, le-leb, lt-leb}
 use borrow.Author.Rules.{rules}
-use Rattle.spec_model.proofs.Products.{product-fits}
+use Rattle.spec_model.proofs.Products.{product_fits}
 use Rattle.spec_rules.specs.Share.{extra}
-use Rattle.law_steps.specs.Extras.{extra-le}
+use Rattle.law_steps.specs.Extras.{extra_le}
 use Rattle.beacon_share.proofs.extra.Statement.{statement}
 use Rattle.beacon_share.proofs.extra.Tie as tie
 
@@ -24,7 +24,7 @@ returns-2 c =
     rw (lt-ltb 0 a.remains.0 (omega arith), le-leb _ _ c.if2.true)
 
 mul-part : tie.Need-overflow-mul-part
-mul-part c = record { fits = product-fits _ _ (omega arith) (omega arith) }
+mul-part c = record { fits = product_fits _ _ (omega arith) (omega arith) }
 
 div-part : tie.Need-nonzero-div-part
 div-part c = search rules
@@ -39,7 +39,7 @@ returns-3 c =
 cast-t9 : tie.Need-overflow-cast-t9
 cast-t9 c =
     let a = c.before.before.before.before.args in
-    omega (arith, returns-3 c, extra-le a.remains.0 a.weight a.headroom.0)
+    omega (arith, returns-3 c, extra_le a.remains.0 a.weight a.headroom.0)
 
 pub extra-spec : {M : Type 1} → statement M
 extra-spec =

@@ -5,35 +5,35 @@ use mathlib.Core.List.{List}
 use Prim.Native.Nat.{ℕ, ◌-◌}
 use native.Mathlib.Omega.{arith}
 use lib.ListN.{length}
-use Rattle.base_lists.specs.Spare.{Filling, filling-none, filling-more, filling-all}
+use Rattle.base_lists.specs.Spare.{Filling, filling_none, filling_more, filling_all}
 use Rattle.spec_model.specs.Tables.{places}
 use Rattle.spec_rules.specs.Share.{extra}
-use Rattle.table_queue.specs.Zips.{length-zip, zip-at}
+use Rattle.table_queue.specs.Zips.{length_zip, zip_at}
 use Rattle.beacon_share.specs.declared.Granted.{Granted}
-use Rattle.beacon_share.specs.Shares.{granted, grantsBy, grants-spare}
+use Rattle.beacon_share.specs.Shares.{granted, grants_by, grants_spare}
 use borrow.Author.Rules.{rules}
 use Rattle.beacon_share.proofs.grants_of.Statement.{statement}
 use Rattle.beacon_share.proofs.grants_of.Tie as tie
 
 abbrev invariant-loop : tie.invariant-loop
 invariant-loop used limits pieces s grants₀ i₀ grants i =
-    Filling (granted 0 0) (grantsBy s.remains.0 s.weight limits pieces) used grants i
+    Filling (granted 0 0) (grants_by s.remains.0 s.weight limits pieces) used grants i
 
 abbrev decreases-loop : tie.decreases-loop
 decreases-loop used limits pieces s grants₀ i₀ grants i = used - i
 
 -- what each place gets, and how many there are
 abbrev all : tie.Start invariant-loop decreases-loop → List Granted
-all z = grantsBy z.args.s.remains.0 z.args.s.weight z.args.limits.now z.args.pieces.now
+all z = grants_by z.args.s.remains.0 z.args.s.weight z.args.limits.now z.args.pieces.now
 
 abbrev own : (z : tie.Start invariant-loop decreases-loop) (piece limit : ℕ) → Granted
 own z p d = granted p (extra z.args.s.remains.0 z.args.s.weight (d - p))
 
 sized : (z : tie.Start invariant-loop decreases-loop) → length (all z) ≡ places
-sized z = omega (arith, length-zip (own z) z.args.pieces.now z.args.limits.now, z.requires.1)
+sized z = omega (arith, length_zip (own z) z.args.pieces.now z.args.limits.now, z.requires.1)
 
 loop-holds : tie.Need-loop-init invariant-loop decreases-loop
-loop-holds c = filling-none (sized c)
+loop-holds c = filling_none (sized c)
 
 mul-t14 : tie.Need-overflow-mul-t14 invariant-loop decreases-loop
 mul-t14 c = search rules
@@ -75,17 +75,17 @@ loop-again c =
     let h = w.loop-test.true in
     let few = z.requires.0.0 in
     let x = c.extra.ensures ∙ ap (extra a.s.remains.0 a.s.weight) r.room_of.ensures in
-    filling-more l.loop.invariant (granted 0 0) (omega (arith, sized z)) h
+    filling_more l.loop.invariant (granted 0 0) (omega (arith, sized z)) h
     (ap (granted _) x
-    ∙ sym (zip-at (own z) a.pieces.now a.limits.now l.loop.i 0 0 (granted 0 0) (omega (arith, z.requires.1)) (omega (arith, z.requires.1))))
+    ∙ sym (zip_at (own z) a.pieces.now a.limits.now l.loop.i 0 0 (granted 0 0) (omega (arith, z.requires.1)) (omega (arith, z.requires.1))))
 
 returns : tie.Need-returns invariant-loop decreases-loop
 returns c =
     let l = c.before in
     let z = l.before in
     let a = z.args in
-    filling-all l.loop.invariant c.loop-test.false
-    (grants-spare a.s.remains.0 a.s.weight a.used a.limits.now a.pieces.now z.requires.0.1.0 z.requires.0.1.1)
+    filling_all l.loop.invariant c.loop-test.false
+    (grants_spare a.s.remains.0 a.s.weight a.used a.limits.now a.pieces.now z.requires.0.1.0 z.requires.0.1.1)
 
 pub grants-of-spec : {M : Type 1} → statement M
 grants-of-spec =

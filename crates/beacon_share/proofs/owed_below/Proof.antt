@@ -5,11 +5,11 @@ use mathlib.Core.Bool.{cond}
 use Prim.Native.Nat.{ℕ, ◌*◌, ◌-◌, ◌≤◌}
 use native.Mathlib.Omega.{arith}
 use lib.Dec.{ltb}
-use Rattle.base_lists.specs.Tests.{cond-zero}
-use Rattle.base_lists.specs.Loops.{summed, summed-more}
-use Rattle.base_lists.specs.Spare.{spare-sum}
+use Rattle.base_lists.specs.Tests.{cond_zero}
+use Rattle.base_lists.specs.Loops.{summed, summed_more}
+use Rattle.base_lists.specs.Spare.{spare_sum}
 use Rattle.table_queue.specs.Queues.{largest32}
-use Rattle.table_queue.specs.Zips.{zip, length-zip, zip-at, zip-spare}
+use Rattle.table_queue.specs.Zips.{zip, length_zip, zip_at, zip_spare}
 use borrow.Author.Rules.{rules}
 use Rattle.beacon_share.proofs.owed_below.Statement.{statement}
 use Rattle.beacon_share.proofs.owed_below.Tie as tie
@@ -66,9 +66,9 @@ loop-again c =
     let few = s.requires.short in
     let f = lower a.own_val in (
       omega arith,
-      summed-more (λ v. v) (zip f a.ranks.now a.owed.now) l.loop.i 0
-          (omega (arith, length-zip f a.ranks.now a.owed.now)) l.loop.invariant.1
-          (o.owed-if-lower.ensures ∙ sym (zip-at f a.ranks.now a.owed.now l.loop.i 0 0 0 (omega arith) (omega arith))),
+      summed_more (λ v. v) (zip f a.ranks.now a.owed.now) l.loop.i 0
+          (omega (arith, length_zip f a.ranks.now a.owed.now)) l.loop.invariant.1
+          (o.owed-if-lower.ensures ∙ sym (zip_at f a.ranks.now a.owed.now l.loop.i 0 0 0 (omega arith) (omega arith))),
       omega arith,
     )
 
@@ -81,8 +81,8 @@ returns c =
     let all = zip (lower a.own_val) a.ranks.now a.owed.now in
     l.loop.invariant.1
     ∙ ap (λ n. summed (λ v. v) n all) e
-    ∙ spare-sum 0 (λ v. v) refl a.used all
-    (zip-spare (lower a.own_val) (λ k. cond-zero (ltb k a.own_val)) a.used a.ranks.now a.owed.now s.requires.spare)
+    ∙ spare_sum 0 (λ v. v) refl a.used all
+    (zip_spare (lower a.own_val) (λ k. cond_zero (ltb k a.own_val)) a.used a.ranks.now a.owed.now s.requires.spare)
 
 pub owed-below-spec : {M : Type 1} → statement M
 owed-below-spec =

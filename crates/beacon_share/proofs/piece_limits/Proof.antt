@@ -7,30 +7,30 @@ use Prim.Native.Nat.{ℕ, ◌-◌}
 use native.Mathlib.Omega.{arith}
 use lib.Dec.{ltb}
 use lib.ListN.{length}
-use Rattle.base_lists.specs.Tests.{cond-zero}
-use Rattle.base_lists.specs.Spare.{Filling, filling-none, filling-more, filling-all}
+use Rattle.base_lists.specs.Tests.{cond_zero}
+use Rattle.base_lists.specs.Spare.{Filling, filling_none, filling_more, filling_all}
 use Rattle.spec_model.specs.Tables.{places}
-use Rattle.table_queue.specs.Zips.{length-zip, zip-at, zip-spare}
-use Rattle.beacon_share.specs.Shares.{pieceLimit, limitsAmong}
+use Rattle.table_queue.specs.Zips.{length_zip, zip_at, zip_spare}
+use Rattle.beacon_share.specs.Shares.{piece_limit, limits_among}
 use borrow.Author.Rules.{rules}
 use Rattle.beacon_share.proofs.piece_limits.Statement.{statement}
 use Rattle.beacon_share.proofs.piece_limits.Tie as tie
 
 abbrev invariant-loop : tie.invariant-loop
-invariant-loop used jobs limits kept₀ i₀ kept i = Filling 0 (limitsAmong false jobs limits) used kept i
+invariant-loop used jobs limits kept₀ i₀ kept i = Filling 0 (limits_among false jobs limits) used kept i
 
 abbrev decreases-loop : tie.decreases-loop
 decreases-loop used jobs limits kept₀ i₀ kept i = used - i
 
 -- the limits, and how many there are
 abbrev all : tie.Start invariant-loop decreases-loop → List ℕ
-all z = limitsAmong false z.args.jobs.now z.args.limits.now
+all z = limits_among false z.args.jobs.now z.args.limits.now
 
 sized : (z : tie.Start invariant-loop decreases-loop) → length (all z) ≡ places
-sized z = omega (arith, length-zip pieceLimit z.args.jobs.now z.args.limits.now, z.requires.1.1)
+sized z = omega (arith, length_zip piece_limit z.args.jobs.now z.args.limits.now, z.requires.1.1)
 
 loop-holds : tie.Need-loop-init invariant-loop decreases-loop
-loop-holds c = filling-none (sized c)
+loop-holds c = filling_none (sized c)
 
 mul-piece-limit : tie.Need-overflow-mul-piece-limit invariant-loop decreases-loop
 mul-piece-limit c = search rules
@@ -66,17 +66,17 @@ loop-again c =
     let z = l.before in
     let a = z.args in
     let few = z.requires.0 in
-    filling-more l.loop.invariant 0 (omega (arith, sized z)) w.loop-test.true
+    filling_more l.loop.invariant 0 (omega (arith, sized z)) w.loop-test.true
     (c.piece-limit.ensures
-    ∙ sym (zip-at pieceLimit a.jobs.now a.limits.now l.loop.i 0 0 0 (omega (arith, z.requires.1.1)) (omega (arith, z.requires.1.1))))
+    ∙ sym (zip_at piece_limit a.jobs.now a.limits.now l.loop.i 0 0 0 (omega (arith, z.requires.1.1)) (omega (arith, z.requires.1.1))))
 
 returns : tie.Need-returns invariant-loop decreases-loop
 returns c =
     let l = c.before in
     let z = l.before in
     let a = z.args in
-    filling-all l.loop.invariant c.loop-test.false
-    (zip-spare pieceLimit (λ m. cond-zero (ltb m 2)) a.used a.jobs.now a.limits.now z.requires.1.0)
+    filling_all l.loop.invariant c.loop-test.false
+    (zip_spare piece_limit (λ m. cond_zero (ltb m 2)) a.used a.jobs.now a.limits.now z.requires.1.0)
 
 pub piece-limits-spec : {M : Type 1} → statement M
 piece-limits-spec =

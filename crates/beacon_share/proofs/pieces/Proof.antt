@@ -4,11 +4,11 @@ use mathlib.Core.Path.{◌≡◌, sym, ◌∙◌}
 use Prim.Native.Nat.{ℕ, ◌-◌}
 use native.Mathlib.Omega.{arith}
 use lib.ListN.{length}
-use Rattle.base_lists.specs.Spare.{Filling, filling-none, filling-more, filling-all}
+use Rattle.base_lists.specs.Spare.{Filling, filling_none, filling_more, filling_all}
 use Rattle.spec_model.specs.Tables.{places}
-use Rattle.table_queue.specs.Zips.{length-zip, zip-at, zip-spare}
+use Rattle.table_queue.specs.Zips.{length_zip, zip_at, zip_spare}
 use Rattle.table_queue.specs.Queues.{piece_of, pieces_of}
-use Rattle.table_queue.proofs.Known.{queue-32}
+use Rattle.table_queue.proofs.Known.{queue_32}
 use borrow.Author.Rules.{rules}
 use Rattle.beacon_share.proofs.pieces.Statement.{statement}
 use Rattle.beacon_share.proofs.pieces.Tie as tie
@@ -27,10 +27,10 @@ pieces-sized : (z : tie.Start invariant-loop decreases-loop)
     → length (pieces_of z.args.capacity.0 z.args.q.ranks z.args.q.owed) ≡ places
 pieces-sized z =
     let q = z.args.q in
-    omega (arith, length-zip (own z) q.ranks q.owed, queue-32 q z.well-formed.0)
+    omega (arith, length_zip (own z) q.ranks q.owed, queue_32 q z.well-formed.0)
 
 loop-holds : tie.Need-loop-init invariant-loop decreases-loop
-loop-holds c = filling-none (pieces-sized c.before.before)
+loop-holds c = filling_none (pieces-sized c.before.before)
 
 slice-aggregate-piece-at : tie.Need-slice-aggregate-piece-at invariant-loop decreases-loop
 slice-aggregate-piece-at c = search rules
@@ -42,7 +42,7 @@ piece-at-requires : tie.Need-piece-at-requires invariant-loop decreases-loop
 piece-at-requires c κs =
     let s = c.before.before.before.before.before.before in
     let q = s.args.q in
-    let w = queue-32 q s.well-formed.0 in
+    let w = queue_32 q s.well-formed.0 in
     let few = s.requires.0 in
     (record { ranked = omega arith; short = few; room = omega arith; spare = s.requires.1 }, c.before.before.loop-test.true)
 
@@ -63,19 +63,19 @@ loop-again c =
     let l = c.before.before.before.before in
     let s = l.before.before.before in
     let q = s.args.q in
-    let w = queue-32 q s.well-formed.0 in
+    let w = queue_32 q s.well-formed.0 in
     let few = s.requires.0 in
     let t = c.before.before.before.loop-test.true in
-    filling-more l.loop.invariant 0 (omega (arith, pieces-sized s)) t
-    (c.piece-at.ensures ∙ sym (zip-at (own s) q.ranks q.owed l.loop.i 0 0 0 (omega arith) (omega arith)))
+    filling_more l.loop.invariant 0 (omega (arith, pieces-sized s)) t
+    (c.piece-at.ensures ∙ sym (zip_at (own s) q.ranks q.owed l.loop.i 0 0 0 (omega arith) (omega arith)))
 
 returns : tie.Need-returns invariant-loop decreases-loop
 returns c =
     let l = c.before in
     let s = l.before.before.before in
     let q = s.args.q in
-    filling-all l.loop.invariant c.loop-test.false
-    (zip-spare (own s) (λ k. omega arith) q.used q.ranks q.owed s.requires.1)
+    filling_all l.loop.invariant c.loop-test.false
+    (zip_spare (own s) (λ k. omega arith) q.used q.ranks q.owed s.requires.1)
 
 pub pieces-spec : {M : Type 1} → statement M
 pieces-spec =

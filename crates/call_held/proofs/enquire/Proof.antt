@@ -1,6 +1,6 @@
 use mathlib.Core.Path.{◌∙◌}
 use borrow.Author.Rules.{rules}
-use Rattle.call_held.specs.Held.{held-answer, held-entry, none-entry}
+use Rattle.call_held.specs.Held.{held_answer_lem, held_entry, none_entry}
 use Rattle.call_held.proofs.enquire.Statement.{statement}
 use Rattle.call_held.proofs.enquire.Tie as tie
 
@@ -22,8 +22,8 @@ returns c =
     let p = h.before in
     let s = p.before in
     let e = p.place_of.ensures in (
-      held-answer s.args.t1 s.requires _ e h.held_at.ensures,
-      held-entry s.args.t1 s.requires _ e _ c.before.if1.true,
+      held_answer_lem s.args.t1 s.requires _ e h.held_at.ensures,
+      held_entry s.args.t1 s.requires _ e _ c.before.if1.true,
     )
 
 free-entry-requires : tie.Need-free-entry-requires
@@ -35,8 +35,8 @@ returns-2 c =
     let p = h.before in
     let s = p.before in
     let e = p.place_of.ensures in (
-      held-answer s.args.t1 s.requires _ e h.held_at.ensures,
-      c.free-entry.ensures ∙ none-entry s.args.t1 s.requires _ e c.before.if1.false,
+      held_answer_lem s.args.t1 s.requires _ e h.held_at.ensures,
+      c.free-entry.ensures ∙ none_entry s.args.t1 s.requires _ e c.before.if1.false,
     )
 
 pub enquire-spec : {M : Type 1} → statement M

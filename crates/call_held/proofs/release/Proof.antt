@@ -1,4 +1,4 @@
-use Rattle.call_held.specs.Held.{held-answer, held-freed}
+use Rattle.call_held.specs.Held.{held_answer_lem, held_freed}
 use borrow.Author.Rules.{rules}
 use Rattle.call_held.proofs.release.Statement.{statement}
 use Rattle.call_held.proofs.release.Tie as tie
@@ -14,7 +14,7 @@ returns c =
     let p = c.before in
     let s = p.before in
     let e = p.place_of.ensures in
-    (held-answer s.args.t s.requires _ e c.held_at.ensures, held-freed s.args.t s.requires _ e)
+    (held_answer_lem s.args.t s.requires _ e c.held_at.ensures, held_freed s.args.t s.requires _ e)
 
 pub release_spec : {M : Type 1} → statement M
 release_spec = tie.close (tie.spec place-of-requires held-at-requires returns)

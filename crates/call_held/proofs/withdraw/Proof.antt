@@ -1,5 +1,5 @@
 use mathlib.Core.Path.{ap, ◌∙◌}
-use Rattle.spec_model.specs.Tables.{putIn}
+use Rattle.spec_model.specs.Tables.{put_in}
 use borrow.Author.Rules.{rules}
 use Rattle.call_held.proofs.withdraw.Statement.{statement}
 use Rattle.call_held.proofs.withdraw.Tie as tie
@@ -18,7 +18,7 @@ returns c =
     let r = c.before.before in
     let e = r.release.ensures in (
       e.0,
-      c.put_in.ensures ∙ ap (λ f. putIn r.before.args.t r.release.result.place f) c.before.free-entry.ensures ∙ e.1,
+      c.put_in.ensures ∙ ap (λ f. put_in r.before.args.t r.release.result.place f) c.before.free-entry.ensures ∙ e.1,
     )
 
 pub withdraw-spec : {M : Type 1} → statement M

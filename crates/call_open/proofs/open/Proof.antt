@@ -1,7 +1,7 @@
 use mathlib.Core.Path.{◌≡◌, sym, ◌∙◌}
 use borrow.Author.Tests.{eq-eqb, ne_eqb}
 use borrow.Author.Rules.{rules}
-use Rattle.spec_rules.specs.Settings.{openAnswer}
+use Rattle.spec_rules.specs.Settings.{open_answer}
 use Rattle.call_open.proofs.open.Statement.{statement}
 use Rattle.call_open.proofs.open.Tie as tie
 
@@ -12,7 +12,7 @@ open-number-requires : tie.Need-open-number-requires
 open-number-requires c κs = search rules
 
 -- the number that is looked at
-number : (c : tie.After-open-number) → c.open-number.result ≡ openAnswer c.before.before.args.s
+number : (c : tie.After-open-number) → c.open-number.result ≡ open_answer c.before.before.args.s
 number c = c.open-number.ensures ∙ c.before.open-answer.ensures
 
 no-table-requires : tie.Need-no-table-requires

@@ -2,7 +2,7 @@
 use mathlib.Core.Path.{sym, subst}
 use borrow.Author.Rules.{rules}
 use Rattle.spec_rules.specs.WellFormed.{WellFormed}
-use Rattle.law_ahead.specs.Formed.{offered-formed}
+use Rattle.law_ahead.specs.Formed.{offered_formed}
 use Rattle.demo_calls.proofs.offer.Statement.{statement}
 use Rattle.demo_calls.proofs.offer.Tie as tie
 
@@ -22,7 +22,7 @@ returns : tie.Need-returns
 returns c =
     let o = c.before.before.before.before in
     let e = o.offer.ensures.1 in
-    (e, subst WellFormed (sym e) (offered-formed _ _ o.before.requires))
+    (e, subst WellFormed (sym e) (offered_formed _ _ o.before.requires))
 
 pub offer-spec : {M : Type 1} → statement M
 offer-spec =

@@ -5,19 +5,19 @@ use lib.Dec.{eqb}
 use borrow.Author.Rules.{rules}
 use borrow.Author.Tests.{eq-eqb}
 use Rattle.spec_model.specs.ByNumbers.{setting}
-use Rattle.spec_model.specs.Tables.{noTable}
+use Rattle.spec_model.specs.Tables.{no_table}
 use Rattle.spec_model.specs.declared.Setting.{Setting}
-use Rattle.spec_rules.specs.Settings.{openAnswer, Succeeds, opened}
+use Rattle.spec_rules.specs.Settings.{open_answer, Succeeds, opened}
 use Rattle.spec_rules.specs.WellFormed.{WellFormed}
-use Rattle.law_ahead.specs.Formed.{opened-formed}
+use Rattle.law_ahead.specs.Formed.{opened_formed}
 use Rattle.demo_calls.proofs.table_of.Statement.{statement}
 use Rattle.demo_calls.proofs.table_of.Tie as tie
 
 open-requires : tie.Need-open-requires
 open-requires c κs = search rules
 
-succeeded : (s : Setting) → Succeeds s → cond (eqb (openAnswer s) 0) (opened s) noTable ≡ opened s
-succeeded s h = rw (eq-eqb (openAnswer s) 0 h)
+succeeded : (s : Setting) → Succeeds s → cond (eqb (open_answer s) 0) (opened s) no_table ≡ opened s
+succeeded s h = rw (eq-eqb (open_answer s) 0 h)
 
 returns : tie.Need-returns
 returns c =
@@ -25,7 +25,7 @@ returns c =
     let h = o.before.requires in
     let s = setting o.before.args.units o.before.args.header in
     let e = o.«open».ensures.1 ∙ succeeded s h in
-    (e, subst WellFormed (sym e) (opened-formed s h))
+    (e, subst WellFormed (sym e) (opened_formed s h))
 
 pub table-of-spec : {M : Type 1} → statement M
 table-of-spec = tie.close (tie.spec open-requires returns)

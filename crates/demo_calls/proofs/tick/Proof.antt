@@ -2,7 +2,7 @@
 use mathlib.Core.Path.{sym, subst}
 use borrow.Author.Rules.{rules}
 use Rattle.spec_rules.specs.WellFormed.{WellFormed}
-use Rattle.law_ahead.specs.Formed.{beacon-formed}
+use Rattle.law_ahead.specs.Formed.{beacon_formed}
 use Rattle.demo_calls.proofs.tick.Statement.{statement}
 use Rattle.demo_calls.proofs.tick.Tie as tie
 
@@ -25,7 +25,7 @@ returns : tie.Need-returns
 returns c =
     let b = c.before.before.before.before.before in
     let e = b.beacon.ensures in
-    (e, subst WellFormed (sym e.1.1.0) (beacon-formed _ _ b.before.before.before.requires))
+    (e, subst WellFormed (sym e.1.1.0) (beacon_formed _ _ b.before.before.before.requires))
 
 pub tick-spec : {M : Type 1} → statement M
 tick-spec =

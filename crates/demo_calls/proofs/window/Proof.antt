@@ -3,7 +3,7 @@ use mathlib.Core.Path.{ap, ◌∙◌}
 use Prim.Native.Nat.{◌/◌}
 use lib.ListN.{length}
 use borrow.Author.Rules.{rules}
-use Rattle.spec_rules.specs.Records.{recordWords}
+use Rattle.spec_rules.specs.Records.{record_words}
 use Rattle.demo_calls.proofs.window.Statement.{statement}
 use Rattle.demo_calls.proofs.window.Tie as tie
 
@@ -22,7 +22,7 @@ slot-rows-requires c κs = search rules
 returns : tie.Need-returns
 returns c =
     let e = c.before.before.before.window.ensures in
-    (e.1, c.slot-rows.ensures ∙ ap (λ ws. length ws / recordWords) e.0)
+    (e.1, c.slot-rows.ensures ∙ ap (λ ws. length ws / record_words) e.0)
 
 pub window-spec : {M : Type 1} → statement M
 window-spec = tie.close (tie.spec window-requires slice-aggregate-plain-row plain-row-requires slot-rows-requires returns)

@@ -2,7 +2,7 @@
 use mathlib.Core.Path.{sym, subst}
 use borrow.Author.Rules.{rules}
 use Rattle.spec_rules.specs.WellFormed.{WellFormed}
-use Rattle.law_ahead.specs.Formed.{withdrawn-formed}
+use Rattle.law_ahead.specs.Formed.{withdrawn_formed}
 use Rattle.demo_calls.proofs.withdraw.Statement.{statement}
 use Rattle.demo_calls.proofs.withdraw.Tie as tie
 
@@ -22,7 +22,7 @@ returns : tie.Need-returns
 returns c =
     let w = c.before.before.before.before in
     let e = w.withdraw.ensures.1 in
-    (e, subst WellFormed (sym e) (withdrawn-formed _ _ w.before.requires))
+    (e, subst WellFormed (sym e) (withdrawn_formed _ _ w.before.requires))
 
 pub withdraw-spec : {M : Type 1} → statement M
 withdraw-spec =

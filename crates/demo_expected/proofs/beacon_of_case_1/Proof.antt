@@ -1,6 +1,6 @@
 -- The plan of what case 1 offers, as the theorem of the cases says. Assumes nothing.
 use borrow.Author.Rules.{rules}
-use Rattle.demo_expected.specs.Said.{plan-told, line}
+use Rattle.demo_expected.specs.Said.{plan_told, line}
 use Rattle.demo_expected.proofs.beacon_of_case_1.Statement.{statement}
 use Rattle.demo_expected.proofs.beacon_of_case_1.Tie as tie
 
@@ -10,7 +10,7 @@ slice-aggregate-beacon c = search rules
 beacon-requires : tie.Need-beacon-requires
 beacon-requires c κs =
     let s = c.before.before.before in
-    (s.requires.1.0, (search rules, rw s.requires.0 (plan-told (line 4)).0))
+    (s.requires.1.0, (search rules, rw s.requires.0 (plan_told (line 4)).0))
 
 same_length : tie.Need-same-length
 same_length c = search rules

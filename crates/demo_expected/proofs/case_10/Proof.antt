@@ -4,15 +4,15 @@ use mathlib.Core.Path.{ap, sym, subst, ◌∙◌}
 use native.Mathlib.Omega.{arith}
 use lib.ListN.{length, drop}
 use borrow.Author.Rules.{rules}
-use Rattle.spec_rules.specs.Records.{recordWords}
-use Rattle.demo_expected.specs.Said.{plan-told, line}
-use Rattle.demo_expected.specs.Words.{plan-later, Each, each_take, each-drop}
+use Rattle.spec_rules.specs.Records.{record_words}
+use Rattle.demo_expected.specs.Said.{plan_told, line}
+use Rattle.demo_expected.specs.Words.{plan_later, Each, each_take, each_drop}
 use Rattle.demo_expected.proofs.case_10.Statement.{statement}
 use Rattle.demo_expected.proofs.case_10.Tie as tie
 
 -- the words of the plan
 abbrev written : ℕ
-written = recordWords * 5
+written = record_words * 5
 
 offers-of-case-1-requires : tie.Need-offers-of-case-1-requires
 offers-of-case-1-requires c κs = search rules
@@ -24,12 +24,12 @@ expect-each-requires : tie.Need-expect-each-requires
 expect-each-requires c κs =
     let r = c.before.before.before in
     let s = r.before.before.before.before in
-    subst (Each 77777) (sym r.refused-beacon.ensures.1.1) s.requires.1
+    subst (Each 77777) (sym r.refused_beacon_lem.ensures.1.1) s.requires.1
 
 beacon-of-case-1-requires : tie.Need-beacon-of-case-1-requires
 beacon-of-case-1-requires c κs =
     let r = c.before.before.before.before.before in
-    let e = r.refused-beacon.ensures in
+    let e = r.refused_beacon_lem.ensures in
     (e.0 ∙ r.before.before.offers-of-case-1.ensures.0, (e.1.0, omega (arith, ap length e.1.1)))
 
 sub-expect-each : tie.Need-overflow-sub-expect-each
@@ -47,9 +47,9 @@ expect-each-requires-2 c κs =
     let r = b.before.before.before.before.before.before in
     let s = r.before.before.before.before in
     let l = b.beacon-of-case-1.new.1.0 in
-    let after = plan-later _ (plan-told (line 4)).0 r.refused-beacon.new.1.0 b.beacon-of-case-1.ensures.1.1 in
-    let e = after ∙ ap (drop written) r.refused-beacon.ensures.1.1 in
-    each_take (length l - written) (drop written l) (subst (Each 77777) (sym e) (each-drop written s.args.plan.now s.requires.1))
+    let after = plan_later _ (plan_told (line 4)).0 r.refused_beacon_lem.new.1.0 b.beacon-of-case-1.ensures.1.1 in
+    let e = after ∙ ap (drop written) r.refused_beacon_lem.ensures.1.1 in
+    each_take (length l - written) (drop written l) (subst (Each 77777) (sym e) (each_drop written s.args.plan.now s.requires.1))
 
 same_length : tie.Need-same-length
 same_length c = search rules

@@ -1,6 +1,6 @@
 -- A table that holds nothing has an empty plan. Assumes nothing.
 use borrow.Author.Rules.{rules}
-use Rattle.demo_expected.specs.Said.{nothing-planned, line}
+use Rattle.demo_expected.specs.Said.{nothing_planned, line}
 use Rattle.demo_expected.proofs.case_10_empty.Statement.{statement}
 use Rattle.demo_expected.proofs.case_10_empty.Tie as tie
 
@@ -13,7 +13,7 @@ slice-aggregate-beacon c = search rules
 beacon-requires : tie.Need-beacon-requires
 beacon-requires c κs =
     let e = c.before.before.«open».ensures in
-    (e.1, (search rules, rw e.0 nothing-planned))
+    (e.1, (search rules, rw e.0 nothing_planned))
 
 same_length : tie.Need-same-length
 same_length c = search rules

@@ -3,7 +3,7 @@ use mathlib.Core.Path.{◌≡◌, sym, ap, ◌∙◌}
 use lib.ListN.{length, take}
 use borrow.Author.Rules.{rules}
 use Rattle.spec_lists.specs.Lists.{same_list}
-use Rattle.spec_shelf.specs.Printed.{headerRow, written}
+use Rattle.spec_shelf.specs.Printed.{header_row, written}
 use Rattle.demo_expected.proofs.expect_header.Statement.{statement}
 use Rattle.demo_expected.proofs.expect_header.Tie as tie
 
@@ -14,7 +14,7 @@ slice-reshare-prefix-is-header : tie.Need-slice-reshare-prefix-is-header
 slice-reshare-prefix-is-header c = search rules
 
 -- what stands there before the row's end
-row_back : (c : tie.After-header-row) → take c.header_row.result c.header_row.new.0 ≡ headerRow
+row_back : (c : tie.After-header-row) → take c.header_row.result c.header_row.new.0 ≡ header_row
 unfolding written
 row_back c = rw (c.header_row.ensures.0, c.header_row.ensures.1)
 
@@ -29,7 +29,7 @@ is-header-requires c κs = search rules
 expect-requires : tie.Need-expect-requires
 expect-requires c κs =
     let h = c.before.before.before.before in
-    c.is-header.ensures ∙ ap (λ row. same_list row headerRow) (row_back h)
+    c.is-header.ensures ∙ ap (λ row. same_list row header_row) (row_back h)
 
 same_length : tie.Need-same-length
 same_length c = search rules

@@ -3,7 +3,7 @@ use Prim.Native.Nat.{◌*◌, ◌≤◌, ◌-◌}
 use native.Mathlib.Omega.{arith}
 use lib.ListN.{length, drop, length-drop}
 use lib.Seq.{take_all}
-use Rattle.spec_rules.specs.Records.{recordWords}
+use Rattle.spec_rules.specs.Records.{record_words}
 use Rattle.demo_expected.proofs.expect_records.Statement.{statement}
 use Rattle.demo_expected.proofs.expect_records.Tie as tie
 
@@ -42,7 +42,7 @@ expect-words-requires c κs =
     let s = c.before.before.before.before.before.before in
     let i = c.before.before.before.before.loop.i in
     let ws = s.args.plan.now in
-    rw (take_all (length ws - recordWords * i) (drop (recordWords * i) ws) (omega (arith, length-drop (recordWords * i) ws))) (s.requires.row i (omega arith))
+    rw (take_all (length ws - record_words * i) (drop (record_words * i) ws) (omega (arith, length-drop (record_words * i) ws))) (s.requires.row i (omega arith))
 
 add-i : tie.Need-overflow-add-i invariant-loop decreases-loop
 add-i c = omega arith

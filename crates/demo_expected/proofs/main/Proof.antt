@@ -2,7 +2,7 @@
 use mathlib.Core.Path.{refl}
 use lib.ListN.{get_or-replicate}
 use borrow.Author.Rules.{rules}
-use Rattle.spec_rules.specs.Records.{planWords}
+use Rattle.spec_rules.specs.Records.{plan_words}
 use Rattle.demo_expected.proofs.main.Statement.{statement}
 use Rattle.demo_expected.proofs.main.Tie as tie
 
@@ -46,7 +46,7 @@ slice-aggregate-case-10 : tie.Need-slice-aggregate-case-10
 slice-aggregate-case-10 c = search rules
 
 case-10-requires : tie.Need-case-10-requires
-case-10-requires c κs = (refl, λ i h. get_or-replicate planWords i 77777 0 h)
+case-10-requires c κs = (refl, λ i h. get_or-replicate plan_words i 77777 0 h)
 
 slice-aggregate-case-10-empty : tie.Need-slice-aggregate-case-10-empty
 slice-aggregate-case-10-empty c = search rules

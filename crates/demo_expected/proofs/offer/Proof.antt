@@ -2,7 +2,7 @@
 use mathlib.Core.Path.{◌∙◌}
 use borrow.Author.Rules.{rules}
 use borrow.Author.Tests.{eq-eqb}
-use Rattle.law_ahead.specs.Formed.{offered-formed}
+use Rattle.law_ahead.specs.Formed.{offered_formed}
 use Rattle.demo_expected.proofs.offer.Statement.{statement}
 use Rattle.demo_expected.proofs.offer.Tie as tie
 
@@ -19,7 +19,7 @@ returns : tie.Need-returns
 returns c =
     let o = c.before.before.before in
     let e = o.offer.ensures.1 in
-    (e, rw e (offered-formed _ _ o.before.requires.0))
+    (e, rw e (offered_formed _ _ o.before.requires.0))
 
 pub offer-spec : {M : Type 1} → statement M
 offer-spec = tie.close (tie.spec offer-requires offer-number-requires expect-requires returns)

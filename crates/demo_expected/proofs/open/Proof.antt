@@ -2,7 +2,7 @@
 use mathlib.Core.Path.{◌∙◌}
 use borrow.Author.Rules.{rules}
 use borrow.Author.Tests.{eq-eqb}
-use Rattle.law_ahead.specs.Formed.{opened-formed}
+use Rattle.law_ahead.specs.Formed.{opened_formed}
 use Rattle.demo_expected.proofs.open.Statement.{statement}
 use Rattle.demo_expected.proofs.open.Tie as tie
 
@@ -20,7 +20,7 @@ returns c =
     let o = c.before.before.before in
     let h = o.before.requires in
     let e = rw h at o.«open».ensures.1 in
-    (e, rw e (opened-formed _ h))
+    (e, rw e (opened_formed _ h))
 
 pub open_spec : {M : Type 1} → statement M
 open_spec = tie.close (tie.spec open-requires open-number-requires expect-requires returns)

@@ -1,7 +1,7 @@
 -- The two are taken, and their plan is the one that is expected. Assumes nothing.
 use mathlib.Core.Path.{◌≡◌}
 use borrow.Author.Rules.{rules}
-use Rattle.demo_expected.specs.Said.{twoHeld, line}
+use Rattle.demo_expected.specs.Said.{two_held, line}
 use Rattle.demo_expected.proofs.plan_of_two.Statement.{statement}
 use Rattle.demo_expected.proofs.plan_of_two.Tie as tie
 
@@ -17,7 +17,7 @@ taken-requires-2 c κs =
     (c.taken.ensures.1, rw (c.taken.ensures.0, o.«open».ensures.0) o.before.before.requires.1.second)
 
 -- the table that takes both
-both : (c : tie.After-taken2) → (let s = c.before.before.before.before in c.taken2.result ≡ twoHeld s.args.first s.args.second)
+both : (c : tie.After-taken2) → (let s = c.before.before.before.before in c.taken2.result ≡ two_held s.args.first s.args.second)
 both c = rw (c.taken2.ensures.0, c.before.taken.ensures.0, c.before.before.«open».ensures.0)
 
 beacon-requires : tie.Need-beacon-requires

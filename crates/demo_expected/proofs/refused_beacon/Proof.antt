@@ -4,15 +4,15 @@ use mathlib.Core.Path.{sym}
 use native.Mathlib.Omega.{arith}
 use lib.Seq.{length-take-le}
 use borrow.Author.Rules.{rules}
-use Rattle.spec_rules.specs.Records.{planWords}
-use Rattle.demo_expected.specs.Said.{short-beacon}
+use Rattle.spec_rules.specs.Records.{plan_words}
+use Rattle.demo_expected.specs.Said.{short_beacon}
 use Rattle.demo_expected.specs.Words.{as_before}
 use Rattle.demo_expected.proofs.refused_beacon.Statement.{statement}
 use Rattle.demo_expected.proofs.refused_beacon.Tie as tie
 
 -- a word too few
 abbrev shortWords : ℕ
-shortWords = planWords - 1
+shortWords = plan_words - 1
 
 slice-relend-prefix-beacon : tie.Need-slice-relend-prefix-beacon
 slice-relend-prefix-beacon c = search rules
@@ -27,7 +27,7 @@ expect-beacon-requires : tie.Need-expect-beacon-requires
 expect-beacon-requires c κs =
     let b = c.before.before in
     let s = b.before.before.before in
-    let e = rw (short-beacon _ shortWords s.args.plan.now (omega arith)) at b.beacon.ensures in
+    let e = rw (short_beacon _ shortWords s.args.plan.now (omega arith)) at b.beacon.ensures in
     (e.0, e.1.0)
 
 same_length : tie.Need-same-length
@@ -37,7 +37,7 @@ returns : tie.Need-returns
 returns c =
     let b = c.before.before.before.before in
     let s = b.before.before.before in
-    let e = rw (short-beacon _ shortWords s.args.plan.now (omega arith)) at b.beacon.ensures in
+    let e = rw (short_beacon _ shortWords s.args.plan.now (omega arith)) at b.beacon.ensures in
     (e.1.1.0, (rw e.1.1.0 s.requires.0, as_before shortWords e.1.1.1))
 
 pub refused-beacon-spec : {M : Type 1} → statement M

@@ -1,7 +1,7 @@
 -- Each answer and each plan is that of a line of ours. Assumes nothing.
 use Prim.Native.Nat.{◌+◌}
 use borrow.Author.Rules.{rules}
-use Rattle.demo_expected.specs.Said.{atTies, atKinds, plan-told, line}
+use Rattle.demo_expected.specs.Said.{at_ties, at_kinds, plan_told, line}
 use Rattle.demo_expected.proofs.two_of_our_own.Statement.{statement}
 use Rattle.demo_expected.proofs.two_of_our_own.Tie as tie
 
@@ -11,7 +11,7 @@ slice-aggregate-plan-of-two c = search rules
 plan-of-two-requires : tie.Need-plan-of-two-requires
 plan-of-two-requires c κs = (
   search rules,
-  record { first = (line (atTies + 1)).answer; second = (line (atTies + 2)).answer; plan = (plan-told (line (atTies + 3))).0 },
+  record { first = (line (at_ties + 1)).answer; second = (line (at_ties + 2)).answer; plan = (plan_told (line (at_ties + 3))).0 },
 )
 
 slice-aggregate-plan-of-two-2 : tie.Need-slice-aggregate-plan-of-two-2
@@ -20,7 +20,7 @@ slice-aggregate-plan-of-two-2 c = search rules
 plan-of-two-requires-2 : tie.Need-plan-of-two-requires-2
 plan-of-two-requires-2 c κs = (
   search rules,
-  record { first = (line (atKinds + 1)).answer; second = (line (atKinds + 2)).answer; plan = (plan-told (line (atKinds + 3))).0 },
+  record { first = (line (at_kinds + 1)).answer; second = (line (at_kinds + 2)).answer; plan = (plan_told (line (at_kinds + 3))).0 },
 )
 
 same_length : tie.Need-same-length

@@ -2,7 +2,7 @@
 use mathlib.Core.Path.{◌∙◌}
 use borrow.Author.Rules.{rules}
 use borrow.Author.Tests.{eq-eqb}
-use Rattle.law_ahead.specs.Formed.{withdrawn-formed}
+use Rattle.law_ahead.specs.Formed.{withdrawn_formed}
 use Rattle.demo_expected.proofs.withdraw.Statement.{statement}
 use Rattle.demo_expected.proofs.withdraw.Tie as tie
 
@@ -19,7 +19,7 @@ returns : tie.Need-returns
 returns c =
     let o = c.before.before.before in
     let e = o.withdraw.ensures.1 in
-    (e, rw e (withdrawn-formed _ _ o.before.requires.0))
+    (e, rw e (withdrawn_formed _ _ o.before.requires.0))
 
 pub withdraw-spec : {M : Type 1} → statement M
 withdraw-spec = tie.close (tie.spec withdraw-requires held-number-requires expect-requires returns)

@@ -42,7 +42,7 @@ use Rattle.spec_model.specs.contracts.Table as T
 use Rattle.spec_model.proofs.Table.TheLaws as T'
 use Rattle.spec_rules.specs.Calls.{beacon}
 use Rattle.spec_rules.specs.WellFormed.{WellFormed}
-use Rattle.spec_model.specs.Numbers.{beaconNumber}
+use Rattle.spec_model.specs.Numbers.{beacon_number}
 use Rattle.spec_model.specs.declared.BeaconAnswer.{BeaconAnswer}
 use Rattle.call_beacon.specs.declared.Beaconing.{Beaconing}
 use Rattle.spec_model.specs.contracts.BeaconAnswer as R
@@ -59,10 +59,10 @@ use Rattle.call_answers.proofs.beacon_number.Met as number-thm
 use Rattle.gelmush.specs.declared.Sent.{Sent}
 use Rattle.gelmush.specs.contracts.Sent as S
 use Rattle.gelmush.proofs.Sent.TheLaws as S'
-use Rattle.law_lent.proofs.Lent.{machine, lent as tracked, loan, table-copied, table_closes}
+use Rattle.law_lent.proofs.Lent.{machine, lent as tracked, loan, table_copied, table_closes}
 use Rattle.law_lent.proofs.Locals.{cell, enters, freed, keeps, value, part, sets, receives}
-use Rattle.law_lent.proofs.Walk.{tells-value}
-use Rattle.law_lent.proofs.Answers.{Numbers, calls-number}
+use Rattle.law_lent.proofs.Walk.{tells_value}
+use Rattle.law_lent.proofs.Answers.{Numbers, calls_number}
 use Rattle.gelmush.specs.contracts.gelmush_beacon.Key.{name as #gelmush·gelmush-beacon}
 use Rattle.gelmush.specs.contracts.gelmush_beacon as lent
 use Rattle.gelmush.proofs.gelmush_beacon.Statement as stated
@@ -89,7 +89,7 @@ answer_val a = EL.val R.the_type R'.the_laws a
 abbrev Called : Table → List ℕ → Beaconing → List ℕ → Type 0
 Called h ys r zs =
     let b = beacon h ys in
-    (beaconNumber r.answer ≡ b.answer) × ((r.count ≡ b.count) × ((r.table ≡ b.table) × (zs ≡ b.words)))
+    (beacon_number r.answer ≡ b.answer) × ((r.count ≡ b.count) × ((r.table ≡ b.table) × (zs ≡ b.words)))
 
 abbrev Done : Table → List ℕ → ℕ → ℕ → Table → List ℕ → Type 0
 Done h ys n c t zs =
@@ -104,7 +104,7 @@ module _ {M : Type 1} {𝓤 : Ura M} (𝓛 : Logic 𝓤) (at_mem : Memory → SP
   Call = triple_of 𝓛 call.signature (call.spec 𝓛 at_mem run)
 
   abbrev Number : Contract 𝓤
-  Number = Numbers 𝓤 R.the_row beaconNumber 𝓛
+  Number = Numbers 𝓤 R.the_row beacon_number 𝓛
 
   module _ (κ κ' : Lft) (q q' : Share) (b o : ℕ) (γ : GName) (h : Table) (b' o' : ℕ) (γ' : GName) (ys : List ℕ) where
     -- the plan's borrow, and its pointer and count
@@ -160,7 +160,7 @@ module _ {M : Type 1} {𝓤 : Ura M} (𝓛 : Logic 𝓤) (at_mem : Memory → SP
         -- [obs; the loan; its token; what the plan's borrow owns; true; the plan's token]
         enters ! 𝓣.C 𝓣.Λ code.function (vptr b o ∷ s ∷ []) _ (λ l₀ l₁ l₂ l₃ l₄ l₅ l₆ l₇ l₈. params1 ! $
         pass1 ! (keeps ! 0 1 refl tt (tt, tt)) $ pass1 ! (keeps ! 0 2 refl tt (tt, (tt, (record { fits = room.0 }, tt)))) $ pass0 ! $
-        move ! (1 ∷ 2 ∷ 3 ∷ []) $ table-copied b o ! refl tt refl h (λ was.
+        move ! (1 ∷ 2 ∷ 3 ∷ []) $ table_copied b o ! refl tt refl h (λ was.
         -- [the table; what it owns; the open loan; obs; auth; the locals; plan; true; token]
         sets ! 5 refl tt (addr ! (from ! (fld ! refl (hop ! (look_in ! 5 (sub ! 0 refl (cell ! 2 refl))) (stop !))))) (tt, tt) $
         sets ! 5 refl tt (agg ! (and_then ! (value ! 5 refl refl)
@@ -179,7 +179,7 @@ module _ {M : Type 1} {𝓤 : Ura M} (𝓛 : Logic 𝓤) (at_mem : Memory → SP
         fsplit ! $ move ! (1 ∷ []) $ fsplit ! $ fsplit ! $ move ! (1 ∷ []) $ feq_l ! (λ l.
         -- [the last list; true; true; the plan's token and the result; the table; …]
         move ! (3 ∷ []) $ split ! $ move ! (1 ∷ []) $ facts ! B.the_row (Is B.the_row) (shows 𝓛 B.the_row) r (w ∷ []) (λ at-w.
-        tells-value ! B.the_row (LL.val B.the_type B'.the_laws) (LL.tells B.the_type B'.the_laws) r w at-w (λ is.
+        tells_value ! B.the_row (LL.val B.the_type B'.the_laws) (LL.tells B.the_type B'.the_laws) r w at-w (λ is.
         let fields-are = LL.owed B.the_type B'.the_laws r _ is in
         -- [token; last list; true; true; the table; the open loan; obs; auth; the locals; true]
         receives ! 8 refl tt ((LL.lawful B.the_type B'.the_laws 𝓛).typed r _ is).0 $
@@ -190,9 +190,9 @@ module _ {M : Type 1} {𝓤 : Ura M} (𝓛 : Logic 𝓤) (at_mem : Memory → SP
         -- [obs; the loan; its token; token; last list; true; true; the locals; true]
         sets ! 7 refl tt (of_opd ! (part ! 7 refl refl refl tt))
         ((EL.lawful R.the_type R'.the_laws 𝓛 tt).typed r.answer _ fields-are.0).0 $
-        calls-number R.the_row beaconNumber ! (fm_of 𝓤 H 𝓛.laws 𝓣) (EL.makes R.the_type R'.the_plain 𝓛) numbered
+        calls_number R.the_row beacon_number ! (fm_of 𝓤 H 𝓛.laws 𝓣) (EL.makes R.the_type R'.the_plain 𝓛) numbered
         r.answer (answer_val r.answer) fields-are.0 (and_then ! (value ! 8 refl refl) (no_more !)) (λ f.
-        let n = beaconNumber r.answer in
+        let n = beacon_number r.answer in
         receives ! 7 refl tt (tt, record { fits = f }) $
         sets ! 7 refl tt (agg ! (and_then ! (value ! 7 refl refl)
         (and_then ! (part ! 7 refl refl refl tt) (no_more !))))

@@ -32,7 +32,7 @@ use denote.Triple.Statement.{Contract, Triple}
 use denote.Triple.Clauses.{ensured, lasts}
 use denote.Triple.Table.{entered, cited}
 use denote.Triple.Walked.{says}
-use Rattle.spec_model.specs.Answers.{offerNumber}
+use Rattle.spec_model.specs.Answers.{offer_number}
 use Rattle.spec_model.specs.declared.Request.{Request}
 use Rattle.spec_model.specs.declared.Table.{Table}
 use Rattle.spec_model.specs.contracts.Entry as N
@@ -43,10 +43,10 @@ use Rattle.spec_model.specs.contracts.Request as Q
 use Rattle.spec_model.proofs.Request.TheLaws as Q'
 use Rattle.spec_model.specs.contracts.Table as T
 use Rattle.spec_model.proofs.Table.TheLaws as T'
-use Rattle.spec_rules.specs.Calls.{offerAnswer, offered}
+use Rattle.spec_rules.specs.Calls.{offer_answer, offered}
 use Rattle.spec_rules.specs.WellFormed.{WellFormed}
 use Rattle.spec_model.specs.ByNumbers.{request}
-use Rattle.spec_model.specs.Tables.{putIn}
+use Rattle.spec_model.specs.Tables.{put_in}
 use Rattle.call_offer.specs.declared.Decision.{Decision}
 use Rattle.call_offer.specs.contracts.Decision as D
 use Rattle.call_offer.proofs.Decision.TheLaws as D'
@@ -57,14 +57,14 @@ use Rattle.call_offer.proofs.decide.Met as decide-thm
 use Rattle.call_answers.proofs.offer_number.Symbol as number-def
 use Rattle.call_answers.proofs.offer_number.Symbol.{name as #call-answers·offer-number}
 use Rattle.call_answers.proofs.offer_number.Met as number-thm
-use Rattle.law_lent.proofs.Lent.{machine, lent, loan, IsTable, table-copied, table_closes}
-use Rattle.law_lent.proofs.Beside.{Plain, number-beside, Values, machines, AreValues}
-use Rattle.law_lent.proofs.Loaned.{Post, exits, loan-meets}
+use Rattle.law_lent.proofs.Lent.{machine, lent, loan, IsTable, table_copied, table_closes}
+use Rattle.law_lent.proofs.Beside.{Plain, number_beside, Values, machines, AreValues}
+use Rattle.law_lent.proofs.Loaned.{Post, exits, loan_meets}
 use Rattle.law_lent.proofs.Locals.{cell, enters, freed, keeps, value, part, sets, receives}
-use Rattle.law_lent.proofs.Walk.{Gives, gives, calls-value}
-use Rattle.law_lent.proofs.Entries.{entry-put}
-use Rattle.law_lent.proofs.Answers.{Numbers, calls-number}
-use Rattle.table_places.proofs.Named.{typed-name}
+use Rattle.law_lent.proofs.Walk.{Gives, gives, calls_value}
+use Rattle.law_lent.proofs.Entries.{entry_put}
+use Rattle.law_lent.proofs.Answers.{Numbers, calls_number}
+use Rattle.table_places.proofs.Named.{typed_name}
 use Rattle.gelmush.proofs.Named.{is_name}
 use Rattle.gelmush.proofs.Frees.{Formed}
 use Rattle.gelmush.specs.contracts.gelmush_offer.Key.{name as #gelmush·gelmush-offer}
@@ -74,7 +74,7 @@ use Rattle.gelmush.proofs.gelmush_offer.Code as code
 
 -- the six numbers that C hands in, and the request that is made of them
 abbrev numbers : List Plain
-numbers = number-beside ∷ number-beside ∷ number-beside ∷ number-beside ∷ number-beside ∷ number-beside ∷ []
+numbers = number_beside ∷ number_beside ∷ number_beside ∷ number_beside ∷ number_beside ∷ number_beside ∷ []
 
 abbrev asked : (κ : Lft) → Values numbers κ → Request
 asked κ n =
@@ -92,7 +92,7 @@ is-request κ n are =
     (is_name κ (n.0, tt) (are.0, tt), (are.1.0, (are.1.1.0, (m.0, (m.1.0, (m.1.1.0, tt))))))
 
 abbrev Says : (κ : Lft) → Table → Values numbers κ → ℕ → Table → Type 0
-Says κ t n answer after = (answer ≡ offerAnswer t (asked κ n)) × (after ≡ offered t (asked κ n))
+Says κ t n answer after = (answer ≡ offer_answer t (asked κ n)) × (after ≡ offered t (asked κ n))
 
 module _ {M : Type 1} {𝓤 : Ura M} (𝓛 : Logic 𝓤) (at_mem : Memory → SProp 𝓤) (run : Routine → Fun 𝓤) where
   -- the contracts that the proof cites
@@ -102,7 +102,7 @@ module _ {M : Type 1} {𝓤 : Ura M} (𝓛 : Logic 𝓤) (at_mem : Memory → SP
   Decide = triple_of 𝓛 decide.signature (decide.spec 𝓛 at_mem run)
 
   abbrev Number : Contract 𝓤
-  Number = Numbers 𝓤 R.the_row offerNumber 𝓛
+  Number = Numbers 𝓤 R.the_row offer_number 𝓛
 
   module _ (𝓣 : Tables 𝓤 H) (known : Triple 𝓤 (𝓣.C #call-offer·decide) Decide)
       (numbered : Triple 𝓤 (𝓣.C #call-answers·offer-number) Number)
@@ -114,7 +114,7 @@ module _ {M : Type 1} {𝓤 : Ura M} (𝓛 : Logic 𝓤) (at_mem : Memory → SP
     Ends = Post 𝓤 numbers u32 (Formed 𝓤 numbers) Says 𝓛 κ q b o γ h n
 
     abbrev Done : Decision → Type 0
-    Done d = (offerNumber d.answer ≡ offerAnswer h r) × (putIn h d.place d.entry ≡ offered h r)
+    Done d = (offer_number d.answer ≡ offer_answer h r) × (put_in h d.place d.entry ≡ offered h r)
 
     -- what the callee's triple binds outside, asks and gives
     abbrev to-decide : Decide.Ghost
@@ -147,15 +147,15 @@ module _ {M : Type 1} {𝓤 : Ura M} (𝓛 : Logic 𝓤) (at_mem : Memory → SP
         pass1 ! (keeps ! 0 6 refl tt (tt, record { fits = m.1.0.1 })) $ pass1 ! (keeps ! 0 7 refl tt (tt, record { fits = m.1.1.0.1 })) $
         pass0 ! $
         sets ! 0 refl tt (agg ! (and_then ! (value ! 0 refl refl) (no_more !)))
-        (typed-name 𝓛 r.name (is_name κ (n.0, tt) (are.0, tt))) $
+        (typed_name 𝓛 r.name (is_name κ (n.0, tt) (are.0, tt))) $
         sets ! 0 refl tt (agg ! (and_then ! (value ! 0 refl refl) (and_then ! (value ! 0 refl refl) (and_then ! (value ! 0 refl refl)
         (and_then ! (value ! 0 refl refl) (and_then ! (value ! 0 refl refl) (and_then ! (value ! 0 refl refl) (no_more !))))))))
         ((LL.lawful Q.the_type Q'.the_laws 𝓛).typed r _ (is-request κ n are)).0 $
-        move ! (1 ∷ 2 ∷ 3 ∷ []) $ table-copied b o ! refl tt refl h (λ was.
+        move ! (1 ∷ 2 ∷ 3 ∷ []) $ table_copied b o ! refl tt refl h (λ was.
         -- [the table; what it owns; the open loan; obs; auth; the locals]
         move ! (1 ∷ []) $ drop ! $ table_closes b o ! tt h was $
         -- [obs; the loan; its token; the locals]
-        calls-value ! (fm_of 𝓤 H 𝓛.laws 𝓣) D.the_row (LL.val D.the_type D'.the_laws) (LL.tells D.the_type D'.the_laws) Done Decide known
+        calls_value ! (fm_of 𝓤 H 𝓛.laws 𝓣) D.the_row (LL.val D.the_type D'.the_laws) (LL.tells D.the_type D'.the_laws) Done Decide known
         to-decide (decide-asked was formed) decide-given
         (and_then ! (value ! 4 refl refl) (and_then ! (value ! 4 refl refl) (no_more !))) (λ d e is.
         let fields-are = LL.owed D.the_type D'.the_laws d _ is in
@@ -166,17 +166,17 @@ module _ {M : Type 1} {𝓤 : Ura M} (𝓛 : Logic 𝓤) (at_mem : Memory → SP
         ((LL.lawful N.the_type N'.the_laws 𝓛).typed d.entry _ fields-are.1.1.0).0 $
         open_ref ! tt (mem T.the_row) {b = b} {o = o} $ move ! (0 ∷ 4 ∷ []) $
         -- [the table; the locals; the open loan; obs; auth]
-        entry-put b o d.place ! refl tt refl refl (refl, refl, refl, tt, tt, tt, refl, refl, refl, refl) refl h formed.tidy.size d.entry
+        entry_put b o d.place ! refl tt refl refl (refl, refl, refl, tt, tt, tt, refl, refl, refl, refl) refl h formed.tidy.size d.entry
         refl fields-are.1.1.0 refl refl $
-        move ! (0 ∷ 2 ∷ 3 ∷ 4 ∷ []) $ close_ref ! tt (mem T.the_row) (putIn h d.place d.entry) {b = b} {o = o} $
+        move ! (0 ∷ 2 ∷ 3 ∷ 4 ∷ []) $ close_ref ! tt (mem T.the_row) (put_in h d.place d.entry) {b = b} {o = o} $
         -- [obs; the loan; its token; the locals]
         sets ! 3 refl tt (of_opd ! (part ! 3 refl refl refl tt))
         ((EL.lawful R.the_type R'.the_laws 𝓛 tt).typed d.answer _ fields-are.0).0 $
-        calls-number R.the_row offerNumber ! (fm_of 𝓤 H 𝓛.laws 𝓣) (EL.makes R.the_type R'.the_plain 𝓛) numbered
+        calls_number R.the_row offer_number ! (fm_of 𝓤 H 𝓛.laws 𝓣) (EL.makes R.the_type R'.the_plain 𝓛) numbered
         d.answer (EL.val R.the_type R'.the_laws d.answer) fields-are.0 (and_then ! (value ! 4 refl refl) (no_more !)) (λ f.
         receives ! 3 refl tt (tt, record { fits = f }) $ returns ! (look_in ! 3 (cell ! 0 refl)) $ move ! (3 ∷ []) $ freed ! $
-        by ! (exits 𝓤 numbers u32 (Formed 𝓤 numbers) Says 𝓛 κ q b o γ h n are (uint_Makes 𝓛 w32) (offerNumber d.answer)
-        (vint w32 (offerNumber d.answer)) (putIn h d.place d.entry) e (refl, f)))))))
+        by ! (exits 𝓤 numbers u32 (Formed 𝓤 numbers) Says 𝓛 κ q b o γ h n are (uint_Makes 𝓛 w32) (offer_number d.answer)
+        (vint w32 (offer_number d.answer)) (put_in h d.place d.entry) e (refl, f)))))))
 
 pub gelmush-offer-spec : {M : Type 1} → stated.statement M
 unfolding code.routine tables_of
@@ -184,7 +184,7 @@ gelmush-offer-spec 𝓤 𝓛 𝓜 𝓡 =
     let 𝓣 = tables_of 𝓤 𝓛.H 𝓜 (tables 𝓤 𝓛.H 𝓜 𝓡 code.env) in
     entered 𝓤 𝓛.H (triple_of 𝓛 lent'.signature (lent'.spec 𝓛 𝓜.mem 𝓡.run))
     (tables 𝓤 𝓛.H 𝓜 𝓡 code.env).C (tables 𝓤 𝓛.H 𝓜 𝓡 code.env).Λ #gelmush·gelmush-offer code.function (code.unfolded 𝓤 𝓛.H 𝓜 𝓡)
-    (loan-meets 𝓤 numbers u32 (Formed 𝓤 numbers) Says 𝓛 𝓣 code.function (walk 𝓛 𝓜.mem 𝓡.run 𝓣
+    (loan_meets 𝓤 numbers u32 (Formed 𝓤 numbers) Says 𝓛 𝓣 code.function (walk 𝓛 𝓜.mem 𝓡.run 𝓣
     (cited 𝓤 𝓛.H (Decide 𝓛 𝓜.mem 𝓡.run) 𝓜 𝓡 code.env #call-offer·decide decide-def.routine code.calls-call-offer::decide
     (decide-thm.met 𝓤 𝓛 𝓜 𝓡))
     (cited 𝓤 𝓛.H (Number 𝓛 𝓜.mem 𝓡.run) 𝓜 𝓡 code.env #call-answers·offer-number number-def.routine

@@ -34,7 +34,7 @@ use denote.Triple.Clauses.{ensured, lasts}
 use denote.Triple.Table.{entered, cited}
 use denote.Triple.Walked.{says}
 use borrow.Author.Tests.{eqb-true, eqb-false, eq-eqb, ne_eqb}
-use Rattle.spec_model.specs.Numbers.{openNumber}
+use Rattle.spec_model.specs.Numbers.{open_number}
 use Rattle.spec_model.specs.ByNumbers.{setting}
 use Rattle.spec_model.specs.declared.OpenAnswer.{OpenAnswer}
 use Rattle.spec_model.specs.declared.Setting.{Setting}
@@ -45,7 +45,7 @@ use Rattle.spec_model.specs.contracts.Setting as U
 use Rattle.spec_model.proofs.Setting.TheLaws as U'
 use Rattle.spec_model.specs.contracts.Table as T
 use Rattle.spec_model.proofs.Table.TheLaws as T'
-use Rattle.spec_rules.specs.Settings.{openAnswer, Succeeds, opened}
+use Rattle.spec_rules.specs.Settings.{open_answer, Succeeds, opened}
 use Rattle.call_open.specs.contracts.open_answer as answer'
 use Rattle.call_open.proofs.open_answer.Symbol as answer-def
 use Rattle.call_open.proofs.open_answer.Symbol.{name as #call-open·open-answer}
@@ -57,12 +57,12 @@ use Rattle.call_open.specs.contracts.opened_table as opened'
 use Rattle.call_open.proofs.opened_table.Symbol as opened-def
 use Rattle.call_open.proofs.opened_table.Symbol.{name as #call-open·opened-table}
 use Rattle.call_open.proofs.opened_table.Met as opened-thm
-use Rattle.law_lent.proofs.Lent.{machine, lent, loan, Lent, table-opens, table_closes}
+use Rattle.law_lent.proofs.Lent.{machine, lent, loan, Lent, table_opens, table_closes}
 use Rattle.law_lent.proofs.Locals.{cell, enters, freed, keeps, value, sets, receives}
-use Rattle.law_lent.proofs.Walk.{Gives, gives, is_false, calls-value, tests}
-use Rattle.law_lent.proofs.Answers.{Numbers, calls-number}
-use Rattle.law_lent.proofs.Beside.{Plain, number-beside, Values, machines, AreValues}
-use Rattle.law_lent.proofs.Loaned.{Post, exits, loan-meets}
+use Rattle.law_lent.proofs.Walk.{Gives, gives, is_false, calls_value, tests}
+use Rattle.law_lent.proofs.Answers.{Numbers, calls_number}
+use Rattle.law_lent.proofs.Beside.{Plain, number_beside, Values, machines, AreValues}
+use Rattle.law_lent.proofs.Loaned.{Post, exits, loan_meets}
 use Rattle.gelmush.specs.contracts.gelmush_open.Key.{name as #gelmush·gelmush-open}
 use Rattle.gelmush.specs.contracts.gelmush_open as lent'
 use Rattle.gelmush.proofs.gelmush_open.Statement as stated
@@ -70,7 +70,7 @@ use Rattle.gelmush.proofs.gelmush_open.Code as code
 
 -- the time units and the header that C hands in, and the setting that is made of them
 abbrev units : List Plain
-units = number-beside ∷ number-beside ∷ []
+units = number_beside ∷ number_beside ∷ []
 
 abbrev setting_of : (κ : Lft) → Values units κ → Setting
 setting_of κ n = setting n.0 n.1.0
@@ -89,7 +89,7 @@ abbrev Nothing : {M : Type 1} (𝓤 : Ura M) (κ : Lft) → Table → Values uni
 Nothing 𝓤 κ t n = emp 𝓤
 
 abbrev Opens : Table → Setting → ℕ → Table → Type 0
-Opens t s answer after = (answer ≡ openAnswer s) × (after ≡ cond (eqb (openAnswer s) 0) (opened s) t)
+Opens t s answer after = (answer ≡ open_answer s) × (after ≡ cond (eqb (open_answer s) 0) (opened s) t)
 
 abbrev Says : (κ : Lft) → Table → Values units κ → ℕ → Table → Type 0
 Says κ t n answer after = Opens t (setting_of κ n) answer after
@@ -105,12 +105,12 @@ is_zero a off = eqb-true a 0 (go (eqb a 0) off)
     go true h = refl
     go false h = absurd h
 
-module _ (h : Table) (s : Setting) {a : ℕ} (e : a ≡ openAnswer s) where
+module _ (h : Table) (s : Setting) {a : ℕ} (e : a ≡ open_answer s) where
   opens : a ≡ 0 → (t : Table) → t ≡ opened s → Opens h s a t
-  opens z t made = (e, rw (eq-eqb (openAnswer s) 0 (sym e ∙ z)) made)
+  opens z t made = (e, rw (eq-eqb (open_answer s) 0 (sym e ∙ z)) made)
 
   refuses : a ≢ 0 → Opens h s a h
-  refuses z = (e, rw (ne_eqb (openAnswer s) 0 (λ q. z (e ∙ q))))
+  refuses z = (e, rw (ne_eqb (open_answer s) 0 (λ q. z (e ∙ q))))
 
 module _ {M : Type 1} {𝓤 : Ura M} (𝓛 : Logic 𝓤) (at_mem : Memory → SProp 𝓤) (run : Routine → Fun 𝓤) where
   -- the contracts that the proof cites
@@ -120,7 +120,7 @@ module _ {M : Type 1} {𝓤 : Ura M} (𝓛 : Logic 𝓤) (at_mem : Memory → SP
   Answer = triple_of 𝓛 answer'.signature (answer'.spec 𝓛 at_mem run)
 
   abbrev Number : Contract 𝓤
-  Number = Numbers 𝓤 R.the_row openNumber 𝓛
+  Number = Numbers 𝓤 R.the_row open_number 𝓛
 
   abbrev Made : Contract 𝓤
   Made = triple_of 𝓛 opened'.signature (opened'.spec 𝓛 at_mem run)
@@ -135,11 +135,11 @@ module _ {M : Type 1} {𝓤 : Ura M} (𝓛 : Logic 𝓤) (at_mem : Memory → SP
         owned ! U.the_row (Is U.the_row) ((LL.makes U.the_type U'.the_plain) 𝓛) s (settingVal s ∷ []) is $ fjoin ! $
         nothing ! $ join ! $ done !
 
-    answer-given : (w : Val) → ent 𝓤 (Answer.post to-answer w) (mean 𝓛 (Gives 𝓤 R.the_row (λ a. openNumber a ≡ openAnswer s) w))
+    answer-given : (w : Val) → ent 𝓤 (Answer.post to-answer w) (mean 𝓛 (Gives 𝓤 R.the_row (λ a. open_number a ≡ open_answer s) w))
     answer-given w =
-        gives 𝓛 R.the_row (λ a. openNumber a ≡ openAnswer s) w
+        gives 𝓛 R.the_row (λ a. open_number a ≡ open_answer s) w
         (ensured 𝓛 answer'.ended (answer'.clauses 𝓛 at_mem run) tt (s, tt) tt)
-        (λ a. ex_e 𝓤 _ (λ ws. snd∗ 𝓤 (sem 𝓛 (lasts answer'.ended tt (s, tt) ws)) (fact 𝓤 (openNumber a ≡ openAnswer s))))
+        (λ a. ex_e 𝓤 _ (λ ws. snd∗ 𝓤 (sem 𝓛 (lasts answer'.ended tt (s, tt) ws)) (fact 𝓤 (open_number a ≡ open_answer s))))
 
     abbrev to_made : Made.Ghost
     to_made = ((tt, tt, tt, (s, tt), (settingVal s ∷ [], tt)), tt)
@@ -179,10 +179,10 @@ module _ {M : Type 1} {𝓤 : Ura M} (𝓛 : Logic 𝓤) (at_mem : Memory → SP
         -- [the locals; obs; the loan; its token; true]
         sets ! 0 refl tt (agg ! (and_then ! (value ! 0 refl refl) (and_then ! (value ! 0 refl refl) (no_more !))))
         ((LL.lawful U.the_type U'.the_laws 𝓛).typed s _ is).0 $
-        calls-value ! (fm_of 𝓤 H 𝓛.laws 𝓣) R.the_row answer_val (EL.tells R.the_type R'.the_laws) (λ a. openNumber a ≡ openAnswer s) Answer
+        calls_value ! (fm_of 𝓤 H 𝓛.laws 𝓣) R.the_row answer_val (EL.tells R.the_type R'.the_laws) (λ a. open_number a ≡ open_answer s) Answer
         known-answer (to-answer s is) (answer-asked s is) (answer-given s is) (and_then ! (value ! 1 refl refl) (no_more !)) (λ a e is-a.
         receives ! 0 refl tt ((EL.lawful R.the_type R'.the_laws 𝓛 tt).typed a _ is-a).0 $
-        calls-number R.the_row openNumber ! (fm_of 𝓤 H 𝓛.laws 𝓣) (EL.makes R.the_type R'.the_plain 𝓛) numbered
+        calls_number R.the_row open_number ! (fm_of 𝓤 H 𝓛.laws 𝓣) (EL.makes R.the_type R'.the_plain 𝓛) numbered
         a (answer_val a) is-a (and_then ! (value ! 1 refl refl) (no_more !)) (λ f.
         receives ! 0 refl tt (tt, record { fits = f }) $
         sets ! 0 refl tt (bin ! (value ! 0 refl refl) (lit ! tt) tt) (tt, tt) $
@@ -190,21 +190,21 @@ module _ {M : Type 1} {𝓤 : Ura M} (𝓛 : Logic 𝓤) (at_mem : Memory → SP
         (λ on.
         sets ! 0 refl tt (of_opd ! (value ! 0 refl refl)) (tt, record { fits = f }) $
         returns_within ! Ends refl (look_in ! 0 (cell ! 0 refl)) $ keep ! (0 ∷ 1 ∷ 2 ∷ 3 ∷ []) $ freed ! $
-        by ! (ends (openNumber a) h f (refuses h s e (not-zero (openNumber a) on))))
+        by ! (ends (open_number a) h f (refuses h s e (not-zero (open_number a) on))))
         (λ off.
-        let z = is_zero (openNumber a) off in
-        calls-value ! (fm_of 𝓤 H 𝓛.laws 𝓣) T.the_row machine (LL.tells T.the_type T'.the_laws) (λ t. t ≡ opened s)
+        let z = is_zero (open_number a) off in
+        calls_value ! (fm_of 𝓤 H 𝓛.laws 𝓣) T.the_row machine (LL.tells T.the_type T'.the_laws) (λ t. t ≡ opened s)
         Made known-made (to_made s is) (made-asked s is (sym e ∙ z)) (made-given s is)
-        (and_then ! (value ! 1 refl refl) (no_more !)) (λ t made is-table.
-        let typed = ((LL.lawful T.the_type T'.the_laws 𝓛).typed t _ is-table).0 in
-        receives ! 0 refl tt typed $ move ! (1 ∷ 2 ∷ 3 ∷ []) $ table-opens b o ! tt h (λ was.
+        (and_then ! (value ! 1 refl refl) (no_more !)) (λ t made is_table.
+        let typed = ((LL.lawful T.the_type T'.the_laws 𝓛).typed t _ is_table).0 in
+        receives ! 0 refl tt typed $ move ! (1 ∷ 2 ∷ 3 ∷ []) $ table_opens b o ! tt h (λ was.
         -- [the lent table; what it owns; the open loan; obs; auth; the locals; true]
         assigns ! (of_opd ! (value ! 5 refl refl)) (from ! (hop ! (look_in ! 5 (cell ! 1 refl)) (stop !))) (store ! 0 refl typed) $
-        move ! (0 ∷ 2 ∷ 3 ∷ 4 ∷ []) $ table_closes b o ! tt t is-table $
+        move ! (0 ∷ 2 ∷ 3 ∷ 4 ∷ []) $ table_closes b o ! tt t is_table $
         -- [obs; the loan; its token; what the lent table owned; the locals; true]
         sets ! 4 refl tt (of_opd ! (value ! 4 refl refl)) (tt, record { fits = f }) $
         returns ! (look_in ! 4 (cell ! 0 refl)) $ keep ! (4 ∷ 0 ∷ 1 ∷ 2 ∷ []) $ freed ! $
-        by ! (ends (openNumber a) t f (opens h s e z t made))))))))
+        by ! (ends (open_number a) t f (opens h s e z t made))))))))
 
 pub gelmush-open-spec : {M : Type 1} → stated.statement M
 unfolding code.routine tables_of
@@ -212,7 +212,7 @@ gelmush-open-spec 𝓤 𝓛 𝓜 𝓡 =
     let 𝓣 = tables_of 𝓤 𝓛.H 𝓜 (tables 𝓤 𝓛.H 𝓜 𝓡 code.env) in
     entered 𝓤 𝓛.H (triple_of 𝓛 lent'.signature (lent'.spec 𝓛 𝓜.mem 𝓡.run))
     (tables 𝓤 𝓛.H 𝓜 𝓡 code.env).C (tables 𝓤 𝓛.H 𝓜 𝓡 code.env).Λ #gelmush·gelmush-open code.function (code.unfolded 𝓤 𝓛.H 𝓜 𝓡)
-    (loan-meets 𝓤 units u32 (Nothing 𝓤) Says 𝓛 𝓣 code.function (walk 𝓛 𝓜.mem 𝓡.run 𝓣
+    (loan_meets 𝓤 units u32 (Nothing 𝓤) Says 𝓛 𝓣 code.function (walk 𝓛 𝓜.mem 𝓡.run 𝓣
     (cited 𝓤 𝓛.H (Answer 𝓛 𝓜.mem 𝓡.run) 𝓜 𝓡 code.env #call-open·open-answer answer-def.routine code.calls-call-open::open-answer
     (answer-thm.met 𝓤 𝓛 𝓜 𝓡))
     (cited 𝓤 𝓛.H (Number 𝓛 𝓜.mem 𝓡.run) 𝓜 𝓡 code.env #call-answers·open-number number-def.routine

@@ -4,13 +4,13 @@ use Prim.Native.Nat.{◌<◌}
 use native.Mathlib.Omega.{arith}
 use borrow.Author.Rules.{rules}
 use borrow.Author.Tests.{eq-eqb, ne_eqb}
-use Rattle.header_test.specs.Due.{partsRoom}
-use Rattle.header_test.specs.DueLaws.{sum-small}
+use Rattle.header_test.specs.Due.{parts_room}
+use Rattle.header_test.specs.DueLaws.{sum_small}
 use Rattle.header_test.proofs.add_need.Statement.{statement}
 use Rattle.header_test.proofs.add_need.Tie as tie
 
 -- of kind 1 the parts have a place
-inside : (n : tie.After-struct-known2) → (let s = n.before.before.before in s.args.e.parts < partsRoom)
+inside : (n : tie.After-struct-known2) → (let s = n.before.before.before in s.args.e.parts < parts_room)
 inside n = (let t = n.before in t.before.before.requires.1 t.if1.true)
 
 cast-m : tie.Need-overflow-cast-m
@@ -36,7 +36,7 @@ add-sums c =
     let n = c.before.before.before in
     omega (
       arith,
-      sum-small n.before.before.before.requires.0 _ (inside n),
+      sum_small n.before.before.before.requires.0 _ (inside n),
       c.before.struct-known4.given,
       c.before.before.struct-known3.given.1.1.1.1.0,
     )

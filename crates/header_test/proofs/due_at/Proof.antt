@@ -7,19 +7,19 @@ use native.Mathlib.Nat.{mul-zero}
 use native.Mathlib.Omega.{arith}
 use lib.ListN.{get_or}
 use borrow.Author.Rules.{rules}
-use Rattle.header_test.specs.Due.{partsRoom, mostNeeds, jobsBy, dueTo, mostJobs}
-use Rattle.header_test.specs.DueLaws.{product-few, jobs-few, due-none, due-more, need-small}
+use Rattle.header_test.specs.Due.{parts_room, most_needs, jobs_by, due_to, most_jobs}
+use Rattle.header_test.specs.DueLaws.{product_few, jobs_few, due_none, due_more, need_small}
 use Rattle.header_test.proofs.due_at.Statement.{statement}
 use Rattle.header_test.proofs.due_at.Tie as tie
 
 abbrev invariant-loop : tie.invariant-loop
-invariant-loop sums k m due₀ i₀ due i = (2 ≤ i) × (i ≤ partsRoom) × (due ≡ dueTo sums k m i) × (due ≤ i * (mostJobs * mostNeeds))
+invariant-loop sums k m due₀ i₀ due i = (2 ≤ i) × (i ≤ parts_room) × (due ≡ due_to sums k m i) × (due ≤ i * (most_jobs * most_needs))
 
 abbrev decreases-loop : tie.decreases-loop
-decreases-loop sums k m due₀ i₀ due i = partsRoom - i
+decreases-loop sums k m due₀ i₀ due i = parts_room - i
 
 loop-holds : tie.Need-loop-init invariant-loop decreases-loop
-loop-holds c = (omega arith, omega arith, sym (due-none _ _ _), omega arith)
+loop-holds c = (omega arith, omega arith, sym (due_none _ _ _), omega arith)
 
 mul-need : tie.Need-overflow-mul-need invariant-loop decreases-loop
 mul-need c = search rules
@@ -33,7 +33,7 @@ cast-jobs c = search rules
 mul-jobs : tie.Need-overflow-mul-jobs invariant-loop decreases-loop
 mul-jobs c =
     let w = c.before.before in
-    omega (arith, product-few _ _ w.before.before.requires.1.0 w.loop-test.true)
+    omega (arith, product_few _ _ w.before.before.requires.1.0 w.loop-test.true)
 
 div-jobs : tie.Need-nonzero-div-jobs invariant-loop decreases-loop
 div-jobs c = search rules
@@ -42,17 +42,17 @@ cast-due : tie.Need-overflow-cast-due invariant-loop decreases-loop
 cast-due c =
     let w = c.before.before in
     let s = w.before.before in
-    omega (arith, jobs-few _ s.args.m _ s.requires.1.0 w.loop-test.true)
+    omega (arith, jobs_few _ s.args.m _ s.requires.1.0 w.loop-test.true)
 
 -- what the jobs of the turn need, which is little
 abbrev turn : tie.In-loop invariant-loop decreases-loop → ℕ
 turn w =
     let l = w.before in
     let a = l.before.args in
-    jobsBy a.k a.m l.loop.i * get_or a.sums.now l.loop.i 0
+    jobs_by a.k a.m l.loop.i * get_or a.sums.now l.loop.i 0
 
-small : (w : tie.In-loop invariant-loop decreases-loop) → turn w ≤ mostJobs * mostNeeds
-small w = (let s = w.before.before in need-small _ _ s.args.m s.requires.0 _ s.requires.1.0 w.loop-test.true)
+small : (w : tie.In-loop invariant-loop decreases-loop) → turn w ≤ most_jobs * most_needs
+small w = (let s = w.before.before in need_small _ _ s.args.m s.requires.0 _ s.requires.1.0 w.loop-test.true)
 
 mul-due : tie.Need-overflow-mul-due invariant-loop decreases-loop
 mul-due c = omega (arith, small c.before.before)
@@ -66,7 +66,7 @@ turned c =
     let w = c.before.before in
     let l = w.before in
     let a = l.before.args in
-    let jobs = jobsBy a.k a.m l.loop.i in
+    let jobs = jobs_by a.k a.m l.loop.i in
     ⊎_elim (λ y. y.1)
     (λ y. let none : get_or a.sums.now l.loop.i 0 ≡ 0 = omega (arith, y.0.left) in
     omega (arith, y.1, ap (λ n. jobs * n) none, mul-zero jobs))
@@ -86,7 +86,7 @@ loop-again c =
     let i = w.loop-test.true in (
       omega arith,
       omega arith,
-      omega (arith, turned c, l.loop.invariant.2, due-more s.args.sums.now s.args.k s.args.m l.loop.i l.loop.invariant.0),
+      omega (arith, turned c, l.loop.invariant.2, due_more s.args.sums.now s.args.k s.args.m l.loop.i l.loop.invariant.0),
       omega (arith, turned c, l.loop.invariant.3, small w),
     )
 
@@ -94,8 +94,8 @@ returns : tie.Need-returns invariant-loop decreases-loop
 returns c =
     let l = c.before in
     let s = l.before in
-    let e : l.loop.i ≡ partsRoom = omega (arith, l.loop.invariant.1, c.loop-test.false) in
-    (l.loop.invariant.2 ∙ ap (dueTo s.args.sums.now s.args.k s.args.m) e, omega (arith, l.loop.invariant.3))
+    let e : l.loop.i ≡ parts_room = omega (arith, l.loop.invariant.1, c.loop-test.false) in
+    (l.loop.invariant.2 ∙ ap (due_to s.args.sums.now s.args.k s.args.m) e, omega (arith, l.loop.invariant.3))
 
 pub due-at-spec : {M : Type 1} → statement M
 due-at-spec =

@@ -7,7 +7,7 @@ use native.Mathlib.Nat.{div-le_self}
 use native.Mathlib.Omega.{arith}
 use borrow.Author.Rules.{rules}
 use Rattle.header_test.specs.Due.{due_at, RoomAt}
-use Rattle.header_test.specs.DueLaws.{from_more, end-small}
+use Rattle.header_test.specs.DueLaws.{from_more, end_small}
 use Rattle.header_test.proofs.ends_fit.Statement.{statement}
 use Rattle.header_test.proofs.ends_fit.Tie as tie
 
@@ -42,7 +42,7 @@ mul-if1 : tie.Need-overflow-mul-if1 invariant-loop decreases-loop
 mul-if1 c =
     let w = c.before in
     let s = w.before.before.before.before in
-    omega (arith, end-small w.before.loop.k s.args.m s.args.f.slots.0 (omega (arith, w.loop-test.true, s.requires.1.1)))
+    omega (arith, end_small w.before.loop.k s.args.m s.args.f.slots.0 (omega (arith, w.loop-test.true, s.requires.1.1)))
 
 add-if1 : tie.Need-overflow-add-if1 invariant-loop decreases-loop
 add-if1 c = search rules
@@ -53,7 +53,7 @@ returns c =
     let w = d.before in
     let l = w.before.loop in (
       λ z. absurd (true≢false (sym z)),
-      λ p. absurd (omega (arith, c.if1.true, d.due-at.ensures.0, p l.k l.invariant.0 (omega (arith, w.loop-test.true)))),
+      λ p. absurd (omega (arith, c.if1.true, d.due_at_lem.ensures.0, p l.k l.invariant.0 (omega (arith, w.loop-test.true)))),
     )
 
 add-k : tie.Need-overflow-add-k invariant-loop decreases-loop
@@ -70,7 +70,7 @@ loop-again c =
     let a = l.before.before.before.args in (
       omega arith,
       omega (arith, w.loop-test.true),
-      from_more (RoomAt a.f a.sums.now a.m) 1 l.loop.k l.loop.invariant.2 (omega (arith, c.if1.false, d.due-at.ensures.0)),
+      from_more (RoomAt a.f a.sums.now a.m) 1 l.loop.k l.loop.invariant.2 (omega (arith, c.if1.false, d.due_at_lem.ensures.0)),
     )
 
 returns-2 : tie.Need-returns-2 invariant-loop decreases-loop

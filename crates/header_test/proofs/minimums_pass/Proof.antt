@@ -8,8 +8,8 @@ use borrow.Author.Rules.{rules}
 use Rattle.spec_model.specs.Entries.{asks}
 use Rattle.header_test.specs.Due.{Tells, Summed, Passes}
 use Rattle.header_test.specs.Sums.{SumsOf}
-use Rattle.header_test.specs.Minimums.{without, Beside, beside_none, beside-small, turn-parts, beside-more, beside_same, beside-all}
-use Rattle.header_test.specs.Minimums.{put-parts, put_small, minimums-right}
+use Rattle.header_test.specs.Minimums.{without, Beside, beside_none, beside_small, turn_parts, beside_more, beside_same, beside_all}
+use Rattle.header_test.specs.Minimums.{put_parts, put_small, minimums_right}
 use Rattle.header_test.proofs.minimums_pass.Statement.{statement}
 use Rattle.header_test.proofs.minimums_pass.Tie as tie
 
@@ -35,8 +35,8 @@ add-need-requires c κs =
     let s = l.before in
     let t = s.args.t1 in
     let p = s.requires.0 in (
-      beside-small t p.0 p.1 s.args.place l.loop.invariant,
-      turn-parts t p.0 p.1 s.args.place l.loop.invariant w.loop-test.true _,
+      beside_small t p.0 p.1 s.args.place l.loop.invariant,
+      turn_parts t p.0 p.1 s.args.place l.loop.invariant w.loop-test.true _,
     )
 
 add-i : tie.Need-overflow-add-i invariant-loop decreases-loop
@@ -56,7 +56,7 @@ loop-again c =
     let h = w.loop-test.true in
     ⊎_elim
     (λ y. subst (Beside t s.args.place s.args.used (l.loop.i + 1)) (sym (y.4 ∙ y.3.ensures))
-    (beside-more t p.0 p.1 s.args.place b h _ y.0.taken (omega arith)))
+    (beside_more t p.0 p.1 s.args.place b h _ y.0.taken (omega arith)))
     (λ y. subst (Beside t s.args.place s.args.used (l.loop.i + 1)) (sym y.1)
     (beside_same t p.0 p.1 s.args.place b h y.0.left))
     c.if1.branch
@@ -67,8 +67,8 @@ add-need-requires-2 c κs =
     let s = l.before in
     let t = s.args.t1 in
     let p = s.requires.0 in (
-      beside-small t p.0 p.1 s.args.place l.loop.invariant,
-      put-parts t p.0 s.requires.1.0 s.args.e s.requires.1.1,
+      beside_small t p.0 p.1 s.args.place l.loop.invariant,
+      put_parts t p.0 s.requires.1.0 s.args.e s.requires.1.1,
     )
 
 -- the sums beside the place, where the loop ends
@@ -80,7 +80,7 @@ others : (n : tie.After-add-need2 invariant-loop decreases-loop)
 others n =
     let a = n.before.before in
     let s = start n in
-    beside-all s.args.t1 s.pre.0.0 s.pre.0.1 s.args.place a.before.loop.invariant a.loop-test.false
+    beside_all s.args.t1 s.pre.0.0 s.pre.0.1 s.args.place a.before.loop.invariant a.loop-test.false
 
 passes-requires : tie.Need-passes-requires invariant-loop decreases-loop
 passes-requires c κs =
@@ -94,7 +94,7 @@ returns c =
     let n = c.before.before.before in
     let s = start n in
     let t = s.args.t1 in
-    minimums-right t s.pre.0.0 s.pre.1.0 s.args.e s.pre.1.1 (omega arith) (others n) c.passes.result
+    minimums_right t s.pre.0.0 s.pre.1.0 s.args.e s.pre.1.1 (omega arith) (others n) c.passes.result
     (subst (λ v. Tells c.passes.result (Passes t.frame v)) n.add-need2.ensures c.passes.ensures)
 
 pub minimums-pass-spec : {M : Type 1} → statement M

@@ -9,16 +9,16 @@ use lib.ListN.{get_or}
 use borrow.Author.Rules.{rules}
 use borrow.Author.Tests.{not-true, not-false}
 use Rattle.base_lists.specs.Tests.{clash}
-use Rattle.header_test.specs.Due.{partsRoom, EndsFit}
+use Rattle.header_test.specs.Due.{parts_room, EndsFit}
 use Rattle.header_test.specs.DueLaws.{from_more}
 use Rattle.header_test.proofs.passes.Statement.{statement}
 use Rattle.header_test.proofs.passes.Tie as tie
 
 abbrev invariant-loop : tie.invariant-loop
-invariant-loop f sums m₀ m = (2 ≤ m) × (m ≤ partsRoom) × ((n : ℕ) → 2 ≤ n → n < m → 1 ≤ get_or sums n 0 → EndsFit f sums n)
+invariant-loop f sums m₀ m = (2 ≤ m) × (m ≤ parts_room) × ((n : ℕ) → 2 ≤ n → n < m → 1 ≤ get_or sums n 0 → EndsFit f sums n)
 
 abbrev decreases-loop : tie.decreases-loop
-decreases-loop f sums m₀ m = partsRoom - m
+decreases-loop f sums m₀ m = parts_room - m
 
 loop-holds : tie.Need-loop-init invariant-loop decreases-loop
 loop-holds c = (omega arith, omega arith, λ n l h. absurd (omega arith))

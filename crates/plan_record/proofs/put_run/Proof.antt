@@ -1,11 +1,11 @@
 -- `plan_record::put_run` meets its contract: a run of no slots is none, any other is one record. Assumes nothing.
 use borrow.Author.Rules.{rules}
-use Rattle.plan_record.specs.Pens.{put-none, put_one}
+use Rattle.plan_record.specs.Pens.{put_none, put_one}
 use Rattle.plan_record.proofs.put_run.Statement.{statement}
 use Rattle.plan_record.proofs.put_run.Tie as tie
 
 returns : tie.Need-returns
-returns c = put-none c.before.before.before.before.args.pen _ c.if1.true
+returns c = put_none c.before.before.before.before.args.pen _ c.if1.true
 
 write-record-requires : tie.Need-write-record-requires
 write-record-requires c κs = search rules

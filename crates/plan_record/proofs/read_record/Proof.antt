@@ -2,8 +2,8 @@
 use mathlib.Core.Path.{sym}
 use Prim.Native.Nat.{◌*◌}
 use borrow.Author.Rules.{rules}
-use Rattle.spec_rules.specs.Records.{recordWords}
-use Rattle.plan_record.specs.Recorded.{one-read}
+use Rattle.spec_rules.specs.Records.{record_words}
+use Rattle.plan_record.specs.Recorded.{one_read}
 use Rattle.plan_record.proofs.read_record.Statement.{statement}
 use Rattle.plan_record.proofs.read_record.Tie as tie
 
@@ -49,7 +49,7 @@ shared-slice-read-length c = search rules
 returns : tie.Need-returns
 returns c =
     let a = c.before.before.before.before.args in
-    sym (one-read a.plan.now (recordWords * a.n))
+    sym (one_read a.plan.now (record_words * a.n))
 
 pub read-record-spec : {M : Type 1} → statement M
 read-record-spec =

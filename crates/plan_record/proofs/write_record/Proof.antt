@@ -2,7 +2,7 @@
 use native.Mathlib.Omega.{arith}
 use lib.ListN.{length-set}
 use borrow.Author.Rules.{rules}
-use Rattle.plan_record.specs.Recorded.{one-recorded}
+use Rattle.plan_record.specs.Recorded.{one_recorded}
 use Rattle.plan_record.proofs.write_record.Statement.{statement}
 use Rattle.plan_record.proofs.write_record.Tie as tie
 
@@ -49,7 +49,7 @@ same_length : tie.Need-same-length
 same_length c = search rules
 
 returns : tie.Need-returns
-returns c = one-recorded c.args.plan.now c.args.n c.args.r c.requires
+returns c = one_recorded c.args.plan.now c.args.n c.args.r c.requires
 
 pub write-record-spec : {M : Type 1} → statement M
 write-record-spec =

@@ -1,7 +1,7 @@
 -- The records passed start before the slot. Assumes nothing.
 use Prim.Native.Nat.{◌-◌}
 use native.Mathlib.Omega.{arith}
-use Rattle.plan_window.specs.Laws.{Passed, before-found, before-passed, before-ended}
+use Rattle.plan_window.specs.Laws.{Passed, before_found, before_passed, before_ended}
 use Rattle.plan_window.proofs.first_from.Statement.{statement}
 use Rattle.plan_window.proofs.first_from.Tie as tie
 
@@ -20,7 +20,7 @@ start-of-requires c κs = omega arith
 returns : tie.Need-returns invariant-loop decreases-loop
 returns c =
     let b = c.before.before.before.before in
-    before-found _ _ _ _ b.before.loop.invariant b.loop-test.true c.before.before.before.start_of_lem.ensures c.if1.true
+    before_found _ _ _ _ b.before.loop.invariant b.loop-test.true c.before.before.before.start_of_lem.ensures c.if1.true
 
 add-i : tie.Need-overflow-add-i invariant-loop decreases-loop
 add-i c = omega arith
@@ -31,10 +31,10 @@ loop-less c = omega arith
 loop-again : tie.Need-loop-preserved invariant-loop decreases-loop
 loop-again c =
     let b = c.before.before.before.before in
-    before-passed _ _ _ _ b.before.loop.invariant b.loop-test.true c.before.before.before.start_of_lem.ensures c.if1.false
+    before_passed _ _ _ _ b.before.loop.invariant b.loop-test.true c.before.before.before.start_of_lem.ensures c.if1.false
 
 returns-2 : tie.Need-returns-2 invariant-loop decreases-loop
-returns-2 c = before-ended _ _ _ _ c.before.loop.invariant c.loop-test.false
+returns-2 c = before_ended _ _ _ _ c.before.loop.invariant c.loop-test.false
 
 pub first-from-spec : {M : Type 1} → statement M
 first-from-spec =

@@ -2,7 +2,7 @@
 use mathlib.Core.Path.{refl}
 use Prim.Native.Nat.{◌≤◌, ◌-◌}
 use native.Mathlib.Omega.{arith}
-use Rattle.plan_window.specs.Laws.{Rising, rises-broken, rises-on, rises-ended}
+use Rattle.plan_window.specs.Laws.{Rising, rises_broken, rises_on, rises_ended}
 use Rattle.plan_window.proofs.starts_rise.Statement.{statement}
 use Rattle.plan_window.proofs.starts_rise.Tie as tie
 
@@ -31,7 +31,7 @@ returns : tie.Need-returns invariant-loop decreases-loop
 returns c =
     let b = c.before.before.before in
     let w = b.before.before.before.loop.invariant.1 in
-    rises-broken _ _ _ w (omega arith) b.start-of2.ensures b.before.start_of_lem.ensures c.if1.true
+    rises_broken _ _ _ w (omega arith) b.start-of2.ensures b.before.start_of_lem.ensures c.if1.true
 
 add-i : tie.Need-overflow-add-i invariant-loop decreases-loop
 add-i c = omega arith
@@ -43,10 +43,10 @@ loop-again : tie.Need-loop-preserved invariant-loop decreases-loop
 loop-again c =
     let b = c.before.before.before in
     let w = b.before.before.before.loop.invariant.1 in
-    (omega arith, rises-on _ _ _ w (omega arith) b.start-of2.ensures b.before.start_of_lem.ensures c.if1.false)
+    (omega arith, rises_on _ _ _ w (omega arith) b.start-of2.ensures b.before.start_of_lem.ensures c.if1.false)
 
 returns-2 : tie.Need-returns-2 invariant-loop decreases-loop
-returns-2 c = rises-ended _ _ _ c.before.loop.invariant.1 c.loop-test.false
+returns-2 c = rises_ended _ _ _ c.before.loop.invariant.1 c.loop-test.false
 
 pub starts-rise-spec : {M : Type 1} → statement M
 starts-rise-spec =

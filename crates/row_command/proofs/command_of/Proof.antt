@@ -7,22 +7,22 @@ use lib.ListN.{length}
 use lib.Seq.{length-take-le}
 use borrow.Author.Rules.{rules}
 use borrow.Author.Tests.{not-true, not-false}
-use Rattle.row_fields.specs.FieldLaws.{to-comma-most}
-use Rattle.spec_shelf.specs.Commands.{commandOf}
+use Rattle.row_fields.specs.FieldLaws.{to_comma_most}
+use Rattle.spec_shelf.specs.Commands.{command_of}
 use Rattle.row_command.specs.Reads.{asked}
-use Rattle.row_command.specs.CommandLaws.{row-long, row-unknown, row_read}
+use Rattle.row_command.specs.CommandLaws.{row_long, row_unknown, row_read}
 use Rattle.spec_shelf.specs.declared.Command.TheVariants.{OtherForm}
 use Rattle.row_command.proofs.command_of.Statement.{statement}
 use Rattle.row_command.proofs.command_of.Tie as tie
 
 returns : tie.Need-returns
-returns c = row-long _ c.if1.true
+returns c = row_long _ c.if1.true
 
 first-comma-requires : tie.Need-first-comma-requires
 first-comma-requires c κs = search rules
 
 inside : (c : tie.After-first-comma) → c.first-comma.result ≤ length c.before.before.before.args.row.now
-inside c = rw c.first-comma.ensures (to-comma-most _)
+inside c = rw c.first-comma.ensures (to_comma_most _)
 
 slice-aggregate-verb-of : tie.Need-slice-aggregate-verb-of
 slice-aggregate-verb-of c = sym (length-take-le _ _ (inside c.before))
@@ -37,7 +37,7 @@ returns-2 : tie.Need-returns-2
 returns-2 c =
     let v = c.before.before in
     let d = v.before.before in
-    row-unknown d.before.before.before.args.row.now v.verb-of.result d.before.if1.false d.first-comma.ensures
+    row_unknown d.before.before.before.args.row.now v.verb-of.result d.before.if1.false d.first-comma.ensures
     v.verb-of.ensures c.enum_told.given.1
 
 sub-read-fields : tie.Need-overflow-sub-read-fields
@@ -59,7 +59,7 @@ abbrev row : tie.After-read-fields → List ℕ
 row c = c.before.before.before.before.before.before.before.before.before.args.row.now
 
 told : (c : tie.After-read-fields) {t : Bool} → let ns = c.read-fields.result in ns.good ≡ t
-    → cond t (asked c.before.before.before.before.verb-of.result ns.values) OtherForm ≡ commandOf (row c)
+    → cond t (asked c.before.before.before.before.verb-of.result ns.values) OtherForm ≡ command_of (row c)
 told c =
     let v = c.before.before.before.before in
     let d = v.before.before in

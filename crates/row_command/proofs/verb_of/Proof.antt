@@ -5,8 +5,8 @@ use mathlib.Core.Bool.{false}
 use mathlib.Core.List.{List}
 use borrow.Author.Rules.{rules}
 use Rattle.spec_lists.specs.Lists.{same_list}
-use Rattle.spec_shelf.specs.Commands.{openVerb, offerVerb, withdrawVerb}
-use Rattle.row_command.specs.Reads.{verbOf}
+use Rattle.spec_shelf.specs.Commands.{open_verb, offer_verb, withdraw_verb}
+use Rattle.row_command.specs.Reads.{verb_of}
 use Rattle.row_command.proofs.verb_of.Statement.{statement}
 use Rattle.row_command.proofs.verb_of.Tie as tie
 
@@ -19,11 +19,11 @@ matches-requires c κs = search rules
 abbrev field : tie.Else1 → List ℕ
 field c = c.before.before.before.before.args.field.now
 
-open-not : (c : tie.Else1) → same_list (field c) openVerb ≡ false
+open-not : (c : tie.Else1) → same_list (field c) open_verb ≡ false
 open-not c = sym c.before.matches.ensures ∙ c.if1.false
 
 returns : tie.Need-returns
-unfolding verbOf
+unfolding verb_of
 returns c = rw (sym c.before.matches.ensures ∙ c.if1.true)
 
 slice-aggregate-matches-2 : tie.Need-slice-aggregate-matches-2
@@ -32,11 +32,11 @@ slice-aggregate-matches-2 c = search rules
 matches-requires-2 : tie.Need-matches-requires-2
 matches-requires-2 c κs = search rules
 
-offer-not : (c : tie.Else2) → same_list (field c.before.before.before) offerVerb ≡ false
+offer-not : (c : tie.Else2) → same_list (field c.before.before.before) offer_verb ≡ false
 offer-not c = sym c.before.matches2.ensures ∙ c.if2.false
 
 returns-2 : tie.Need-returns-2
-unfolding verbOf
+unfolding verb_of
 returns-2 c = rw (open-not c.before.before.before, sym c.before.matches2.ensures ∙ c.if2.true)
 
 slice-aggregate-matches-3 : tie.Need-slice-aggregate-matches-3
@@ -45,11 +45,11 @@ slice-aggregate-matches-3 c = search rules
 matches-requires-3 : tie.Need-matches-requires-3
 matches-requires-3 c κs = search rules
 
-withdraw-not : (c : tie.Else3) → same_list (field c.before.before.before.before.before.before) withdrawVerb ≡ false
+withdraw-not : (c : tie.Else3) → same_list (field c.before.before.before.before.before.before) withdraw_verb ≡ false
 withdraw-not c = sym c.before.matches3.ensures ∙ c.if3.false
 
 returns-3 : tie.Need-returns-3
-unfolding verbOf
+unfolding verb_of
 returns-3 c =
     let d = c.before.before.before in
     rw (open-not d.before.before.before, offer-not d, sym c.before.matches3.ensures ∙ c.if3.true)
@@ -61,14 +61,14 @@ matches-requires-4 : tie.Need-matches-requires-4
 matches-requires-4 c κs = search rules
 
 returns-4 : tie.Need-returns-4
-unfolding verbOf
+unfolding verb_of
 returns-4 c =
     let d = c.before.before.before in
     let e = d.before.before.before in
     rw (open-not e.before.before.before, offer-not e, withdraw-not d, sym c.before.matches4.ensures ∙ c.if4.true)
 
 returns-5 : tie.Need-returns-5
-unfolding verbOf
+unfolding verb_of
 returns-5 c =
     let d = c.before.before.before in
     let e = d.before.before.before in

@@ -2,7 +2,7 @@ use native.Mathlib.Numerals.{add-one}
 use borrow.Author.Tests.{lt-ltb, le-ltb}
 use mathlib.Core.Path.{refl}
 use borrow.Author.Rules.{rules}
-use Rattle.row_cut.specs.Lines.{withByte}
+use Rattle.row_cut.specs.Lines.{with_byte}
 use Rattle.row_cut.proofs.keep_byte.Statement.{statement}
 use Rattle.row_cut.proofs.keep_byte.Tie as tie
 use Rattle.row_cut.proofs.keep_byte.Reads as reads
@@ -15,14 +15,14 @@ add-result : tie.Need-overflow-add-result
 add-result c = search rules
 
 returns : tie.Need-returns
-unfolding withByte
+unfolding with_byte
 returns c = rw (lt-ltb _ _ c.if1.true, add-one) refl
 
 add-result-2 : tie.Need-overflow-add-result-2
 add-result-2 c = search rules
 
 returns-2 : tie.Need-returns-2
-unfolding withByte
+unfolding with_byte
 returns-2 c = rw (le-ltb _ _ c.if1.false) refl
 
 pub keep-byte-spec : {M : Type 1} → statement M

@@ -5,12 +5,12 @@ use Prim.Native.Nat.{◌+◌, ◌-◌, ◌≤◌}
 use native.Mathlib.Omega.{arith}
 use lib.ListN.{length, drop}
 use borrow.Author.Rules.{rules}
-use Rattle.row_fields.specs.FieldLaws.{toComma, comma-here, comma-later, comma-nowhere}
+use Rattle.row_fields.specs.FieldLaws.{to_comma, comma_here, comma_later, comma_nowhere}
 use Rattle.row_fields.proofs.first_comma.Statement.{statement}
 use Rattle.row_fields.proofs.first_comma.Tie as tie
 
 abbrev invariant-loop : tie.invariant-loop
-invariant-loop text i₀ i = (i ≤ length text) × (i + toComma (drop i text) ≡ toComma text)
+invariant-loop text i₀ i = (i ≤ length text) × (i + to_comma (drop i text) ≡ to_comma text)
 
 abbrev decreases-loop : tie.decreases-loop
 decreases-loop text i₀ i = length text - i
@@ -23,7 +23,7 @@ shared-slice-read-if1 c = search rules
 
 returns : tie.Need-returns invariant-loop decreases-loop
 returns c =
-    omega (arith, comma-here c.before.before.before.before.args.text.now _ c.before.before.loop-test.true c.if1.true)
+    omega (arith, comma_here c.before.before.before.before.args.text.now _ c.before.before.loop-test.true c.if1.true)
 
 add-i : tie.Need-overflow-add-i invariant-loop decreases-loop
 add-i c = search rules
@@ -34,11 +34,11 @@ loop-less c = search rules
 loop-again : tie.Need-loop-preserved invariant-loop decreases-loop
 loop-again c = (
   omega arith,
-  omega (arith, comma-later c.before.before.before.before.args.text.now _ c.before.before.loop-test.true c.if1.false),
+  omega (arith, comma_later c.before.before.before.before.args.text.now _ c.before.before.loop-test.true c.if1.false),
 )
 
 returns-2 : tie.Need-returns-2 invariant-loop decreases-loop
-returns-2 c = omega (arith, comma-nowhere c.before.before.args.text.now _ c.loop-test.false)
+returns-2 c = omega (arith, comma_nowhere c.before.before.args.text.now _ c.loop-test.false)
 
 pub first-comma-spec : {M : Type 1} → statement M
 first-comma-spec =

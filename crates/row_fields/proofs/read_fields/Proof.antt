@@ -7,24 +7,24 @@ use native.Mathlib.Omega.{arith}
 use lib.ListN.{length, take, drop, get_or, length-set}
 use borrow.Author.Rules.{rules}
 use borrow.Author.Tests.{not-true, not-false}
-use Rattle.base_lists.specs.Loops.{left-next}
+use Rattle.base_lists.specs.Loops.{left_next}
 use Rattle.spec_text.specs.declared.Field.{Field}
 use Rattle.spec_text.specs.declared.Field.TheVariants.{Needed}
-use Rattle.spec_text.specs.Fields.{fieldCount, hasFields, numbersOf}
-use Rattle.row_fields.specs.FieldLaws.{fieldsAfter, after-end, part, part-most, part-next}
-use Rattle.row_fields.specs.FieldLaws.{fit_none, fit_refused, fit_passed, fit-over, fit-done}
-use Rattle.row_fields.specs.ReadLaws.{good-fits, good-value, fields-bad, fields-good, value-kept, values-kept}
+use Rattle.spec_text.specs.Fields.{field_count, has_fields, numbers_of}
+use Rattle.row_fields.specs.FieldLaws.{fields_after, after_end_lem, part, part_most, part_next}
+use Rattle.row_fields.specs.FieldLaws.{fit_none, fit_refused, fit_passed, fit_over, fit_done}
+use Rattle.row_fields.specs.ReadLaws.{good_fits, good_value, fields_bad, fields_good, value_kept, values_kept}
 use Rattle.row_fields.proofs.read_fields.Statement.{statement}
 use Rattle.row_fields.proofs.read_fields.Tie as tie
 
 abbrev invariant-loop : tie.invariant-loop
 invariant-loop text form none values₀ at₀ i₀ values at i =
-    (i ≤ fieldCount) × (at ≤ length text) × (length values ≡ fieldCount)
-    × (hasFields (drop i form) (fieldsAfter (drop at text)) ≡ hasFields form (fieldsAfter text))
-    × (take i values ++ numbersOf (drop i form) (fieldsAfter (drop at text)) ≡ numbersOf form (fieldsAfter text))
+    (i ≤ field_count) × (at ≤ length text) × (length values ≡ field_count)
+    × (has_fields (drop i form) (fields_after (drop at text)) ≡ has_fields form (fields_after text))
+    × (take i values ++ numbers_of (drop i form) (fields_after (drop at text)) ≡ numbers_of form (fields_after text))
 
 abbrev decreases-loop : tie.decreases-loop
-decreases-loop text form none values₀ at₀ i₀ values at i = fieldCount - i
+decreases-loop text form none values₀ at₀ i₀ values at i = field_count - i
 
 loop-holds : tie.Need-loop-init invariant-loop decreases-loop
 loop-holds c = (omega arith, omega arith, refl, refl, refl)
@@ -33,15 +33,15 @@ loop-holds c = (omega arith, omega arith, refl, refl, refl)
 abbrev form : tie.Start invariant-loop decreases-loop → List Field
 form s = s.args.t2
 
-whole : (s : tie.Start invariant-loop decreases-loop) → length (form s) ≡ fieldCount
+whole : (s : tie.Start invariant-loop decreases-loop) → length (form s) ≡ field_count
 whole s = s.well-formed.1.0.1.0.1
 
 returns : tie.Need-returns invariant-loop decreases-loop
 returns c =
     let l = c.before.before in
     let s = l.before.before in
-    fields-bad (form s) _
-    (sym l.loop.invariant.3 ∙ rw (after-end _ _ c.if1.true) (fit_none (form s) l.loop.i (omega (arith, whole s))))
+    fields_bad (form s) _
+    (sym l.loop.invariant.3 ∙ rw (after_end_lem _ _ c.if1.true) (fit_none (form s) l.loop.i (omega (arith, whole s))))
 
 add-from : tie.Need-overflow-add-from invariant-loop decreases-loop
 add-from c = search rules
@@ -69,11 +69,11 @@ abbrev end : tie.After-first-comma invariant-loop decreases-loop → ℕ
 end c = at c + 1 + c.first-comma.result
 
 inside : (c : tie.After-first-comma invariant-loop decreases-loop) → end c ≤ length (text c)
-inside c = part-most (text c) (at c) _ c.before.before.if1.false c.first-comma.ensures
+inside c = part_most (text c) (at c) _ c.before.before.if1.false c.first-comma.ensures
 
 next : (c : tie.After-first-comma invariant-loop decreases-loop)
-    → fieldsAfter (drop (at c) (text c)) ≡ part (at c + 1) (end c) (text c) ∷ fieldsAfter (drop (end c) (text c))
-next c = part-next _ _ _ c.before.before.if1.false c.first-comma.ensures
+    → fields_after (drop (at c) (text c)) ≡ part (at c + 1) (end c) (text c) ∷ fields_after (drop (end c) (text c))
+next c = part_next _ _ _ c.before.before.if1.false c.first-comma.ensures
 
 -- what is left of the form begins with what is asked of that field
 left : (c : tie.After-first-comma invariant-loop decreases-loop) → let l = c.before.before.before.before in let f = form l.before.before in
@@ -81,7 +81,7 @@ left : (c : tie.After-first-comma invariant-loop decreases-loop) → let l = c.b
 left c =
     let l = c.before.before.before.before in
     let s = l.before.before in
-    left-next (form s) l.loop.i Needed (omega (arith, whole s))
+    left_next (form s) l.loop.i Needed (omega (arith, whole s))
 
 add-end : tie.Need-overflow-add-end invariant-loop decreases-loop
 add-end c = omega (arith, inside c)
@@ -109,8 +109,8 @@ returns-2 c =
     let r = c.before.before in
     let a = r.before.before.before in
     let l = a.before.before.before.before in
-    let f = sym (good-fits _ _ r.read-field.ensures) ∙ not-true _ c.if2.true in
-    fields-bad _ _ (sym l.loop.invariant.3 ∙ ap₂ hasFields (left a) (next a) ∙ fit_refused _ _ _ _ f)
+    let f = sym (good_fits _ _ r.read-field.ensures) ∙ not-true _ c.if2.true in
+    fields_bad _ _ (sym l.loop.invariant.3 ∙ ap₂ has_fields (left a) (next a) ∙ fit_refused _ _ _ _ f)
 
 mul-values : tie.Need-overflow-mul-values invariant-loop decreases-loop
 mul-values c = search rules
@@ -135,24 +135,24 @@ loop-again c =
       omega arith,
       inside a,
       length-set d.values d.i _ ∙ d.invariant.2,
-      sym (ap₂ hasFields (left a) (next a) ∙ fit_passed _ _ _ _ (sym (good-fits _ _ e) ∙ g)) ∙ d.invariant.3,
-      value-kept (form s) d.values d.i _ _ _ (omega (arith, whole s)) (omega arith) (good-value _ _ e g) (next a) d.invariant.4,
+      sym (ap₂ has_fields (left a) (next a) ∙ fit_passed _ _ _ _ (sym (good_fits _ _ e) ∙ g)) ∙ d.invariant.3,
+      value_kept (form s) d.values d.i _ _ _ (omega (arith, whole s)) (omega arith) (good_value _ _ e g) (next a) d.invariant.4,
     )
 
 returns-3 : tie.Need-returns-3 invariant-loop decreases-loop
 returns-3 c =
     let l = c.before.before in
     let s = l.before.before in
-    fields-bad (form s) _ (sym l.loop.invariant.3 ∙ fit-over (form s) l.loop.i _ _ (omega (arith, whole s)) c.if3.true)
+    fields_bad (form s) _ (sym l.loop.invariant.3 ∙ fit_over (form s) l.loop.i _ _ (omega (arith, whole s)) c.if3.true)
 
 returns-4 : tie.Need-returns-4 invariant-loop decreases-loop
 returns-4 c =
     let l = c.before.before in
     let s = l.before.before in
     let all : length (form s) ≤ l.loop.i = omega (arith, whole s) in
-    let g = after-end s.args.text.now l.loop.at c.if3.false in
-    fields-good (form s) _ (sym l.loop.invariant.3 ∙ rw g (fit-done (form s) l.loop.i all))
-    (values-kept (form s) l.loop.values l.loop.i _ all (omega arith) l.loop.invariant.4)
+    let g = after_end_lem s.args.text.now l.loop.at c.if3.false in
+    fields_good (form s) _ (sym l.loop.invariant.3 ∙ rw g (fit_done (form s) l.loop.i all))
+    (values_kept (form s) l.loop.values l.loop.i _ all (omega arith) l.loop.invariant.4)
 
 pub read-fields-spec : {M : Type 1} → statement M
 read-fields-spec =

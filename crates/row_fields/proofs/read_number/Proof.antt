@@ -10,8 +10,8 @@ use borrow.Author.Tests.{not-true, not-false}
 use Rattle.spec_lists.specs.Lists.{within}
 use Rattle.base_lists.specs.Tests.{within_both}
 use Rattle.spec_text.specs.Fields.{spelt, value_of}
-use Rattle.row_fields.specs.FieldLaws.{spells, too_large, no_digit, digit-next, spelt-next, digits-end, spelt-end}
-use Rattle.row_fields.specs.ReadLaws.{too_short, too_long, not-spelt, well-spelt}
+use Rattle.row_fields.specs.FieldLaws.{spells, too_large, no_digit, digit_next, spelt_next, digits_end, spelt_end}
+use Rattle.row_fields.specs.ReadLaws.{too_short, too_long, not_spelt, well_spelt}
 use Rattle.row_fields.proofs.read_number.Statement.{statement}
 use Rattle.row_fields.proofs.read_number.Tie as tie
 
@@ -45,7 +45,7 @@ returns-3 : tie.Need-returns-3 invariant-loop decreases-loop
 returns-3 c =
     let d = c.before.before.before in
     let e = sym c.before.is_Within.ensures ∙ not-true _ c.if3.true in
-    not-spelt _ (sym d.before.loop.invariant.1 ∙ no_digit _ _ _ d.loop-test.true e)
+    not_spelt _ (sym d.before.loop.invariant.1 ∙ no_digit _ _ _ d.loop-test.true e)
 
 -- the byte that the loop is at
 abbrev here : tie.At-loop invariant-loop decreases-loop → ℕ
@@ -72,8 +72,8 @@ add-value c = omega (arith, digit-range c)
 returns-4 : tie.Need-returns-4 invariant-loop decreases-loop
 returns-4 c =
     let d = c.before.before.before.before in
-    let e = digit-next _ _ _ d.loop-test.true (is_digit c.before) in
-    not-spelt _ (sym d.before.loop.invariant.1 ∙ e ∙ too_large _ _ c.if4.true)
+    let e = digit_next _ _ _ d.loop-test.true (is_digit c.before) in
+    not_spelt _ (sym d.before.loop.invariant.1 ∙ e ∙ too_large _ _ c.if4.true)
 
 add-i : tie.Need-overflow-add-i invariant-loop decreases-loop
 add-i c = search rules
@@ -87,8 +87,8 @@ loop-again c =
     let h = d.loop-test.true in
     let v = d.before.loop.invariant in (
       omega arith,
-      sym (digit-next _ _ _ h (is_digit c.before)) ∙ v.1,
-      sym (spelt-next _ _ _ h) ∙ v.2,
+      sym (digit_next _ _ _ h (is_digit c.before)) ∙ v.1,
+      sym (spelt_next _ _ _ h) ∙ v.2,
       c.if4.false,
     )
 
@@ -99,7 +99,7 @@ returns-5 : tie.Need-returns-5 invariant-loop decreases-loop
 returns-5 c =
     let d = c.before.loop in
     let h = c.loop-test.false in
-    well-spelt _ (omega arith) (omega arith) (sym d.invariant.1 ∙ digits-end _ _ _ h d.invariant.3) (sym (spelt-end _ _ _ h) ∙ d.invariant.2)
+    well_spelt _ (omega arith) (omega arith) (sym d.invariant.1 ∙ digits_end _ _ _ h d.invariant.3) (sym (spelt_end _ _ _ h) ∙ d.invariant.2)
 
 pub read-number-spec : {M : Type 1} → statement M
 read-number-spec =

@@ -1,8 +1,8 @@
 -- `row_print::plain_row` meets its contract: verb, four empty fields, answer and end of the row. Assumes nothing.
 use native.Mathlib.Omega.{arith}
 use borrow.Author.Rules.{rules}
-use Rattle.spec_shelf.specs.Printed.{plainRow}
-use Rattle.row_write.specs.BytesLaws.{field-most, wrote, contract, wrote_then}
+use Rattle.spec_shelf.specs.Printed.{plain_row}
+use Rattle.row_write.specs.BytesLaws.{field_most, wrote, contract, wrote_then}
 use Rattle.row_print.proofs.plain_row.Statement.{statement}
 use Rattle.row_print.proofs.plain_row.Tie as tie
 
@@ -22,13 +22,13 @@ slice-aggregate-put-bytes-2 : tie.Need-slice-aggregate-put-bytes-2
 slice-aggregate-put-bytes-2 c = search rules
 
 put-bytes-requires-3 : tie.Need-put-bytes-requires-3
-put-bytes-requires-3 c κs = omega (arith, field-most)
+put-bytes-requires-3 c κs = omega (arith, field_most)
 
 same_length : tie.Need-same-length
 same_length c = search rules
 
 returns : tie.Need-returns
-unfolding plainRow
+unfolding plain_row
 returns c =
     let end = c.before.before in
     let last = end.before.before.before.before.before in

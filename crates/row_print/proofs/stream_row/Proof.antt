@@ -1,9 +1,9 @@
 -- `row_print::stream_row` meets its contract: verb, name, three empty fields, answer and end of the row. Assumes nothing.
 use native.Mathlib.Omega.{arith}
 use borrow.Author.Rules.{rules}
-use Rattle.spec_shelf.specs.Printed.{streamRow}
-use Rattle.row_write.specs.BytesLaws.{field-most, wrote, contract, wrote_then}
-use Rattle.row_print.specs.PrintedLaws.{named-most}
+use Rattle.spec_shelf.specs.Printed.{stream_row}
+use Rattle.row_write.specs.BytesLaws.{field_most, wrote, contract, wrote_then}
+use Rattle.row_print.specs.PrintedLaws.{named_most}
 use Rattle.row_print.proofs.stream_row.Statement.{statement}
 use Rattle.row_print.proofs.stream_row.Tie as tie
 
@@ -17,22 +17,22 @@ slice-aggregate-put-bytes : tie.Need-slice-aggregate-put-bytes
 slice-aggregate-put-bytes c = search rules
 
 put-bytes-requires-2 : tie.Need-put-bytes-requires-2
-put-bytes-requires-2 c κs = omega (arith, named-most)
+put-bytes-requires-2 c κs = omega (arith, named_most)
 
 put-field-requires : tie.Need-put-field-requires
-put-field-requires c κs = omega (arith, named-most)
+put-field-requires c κs = omega (arith, named_most)
 
 slice-aggregate-put-bytes-2 : tie.Need-slice-aggregate-put-bytes-2
 slice-aggregate-put-bytes-2 c = search rules
 
 put-bytes-requires-3 : tie.Need-put-bytes-requires-3
-put-bytes-requires-3 c κs = omega (arith, named-most, field-most)
+put-bytes-requires-3 c κs = omega (arith, named_most, field_most)
 
 same_length : tie.Need-same-length
 same_length c = search rules
 
 returns : tie.Need-returns
-unfolding streamRow
+unfolding stream_row
 returns c =
     let end = c.before.before in
     let last = end.before.before.before.before.before in

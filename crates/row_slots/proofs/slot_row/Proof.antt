@@ -1,9 +1,9 @@
 -- `row_slots::slot_row` meets its contract: `slot`, a name, three numbers, an empty field and the end of the row. Assumes nothing.
 use native.Mathlib.Omega.{arith}
 use borrow.Author.Rules.{rules}
-use Rattle.spec_shelf.specs.Printed.{slotRowOf}
-use Rattle.row_write.specs.BytesLaws.{field-most, wrote, contract, wrote_then}
-use Rattle.row_print.specs.PrintedLaws.{named-most}
+use Rattle.spec_shelf.specs.Printed.{slot_row_of}
+use Rattle.row_write.specs.BytesLaws.{field_most, wrote, contract, wrote_then}
+use Rattle.row_print.specs.PrintedLaws.{named_most}
 use Rattle.row_slots.proofs.slot_row.Statement.{statement}
 use Rattle.row_slots.proofs.slot_row.Tie as tie
 
@@ -17,25 +17,25 @@ put-name-requires : tie.Need-put-name-requires
 put-name-requires c κs = search rules
 
 put-field-requires : tie.Need-put-field-requires
-put-field-requires c κs = omega (arith, named-most)
+put-field-requires c κs = omega (arith, named_most)
 
 put-field-requires-2 : tie.Need-put-field-requires-2
-put-field-requires-2 c κs = omega (arith, named-most, field-most)
+put-field-requires-2 c κs = omega (arith, named_most, field_most)
 
 put-field-requires-3 : tie.Need-put-field-requires-3
-put-field-requires-3 c κs = omega (arith, named-most, field-most)
+put-field-requires-3 c κs = omega (arith, named_most, field_most)
 
 slice-aggregate-put-bytes-2 : tie.Need-slice-aggregate-put-bytes-2
 slice-aggregate-put-bytes-2 c = search rules
 
 put-bytes-requires-2 : tie.Need-put-bytes-requires-2
-put-bytes-requires-2 c κs = omega (arith, named-most, field-most)
+put-bytes-requires-2 c κs = omega (arith, named_most, field_most)
 
 same_length : tie.Need-same-length
 same_length c = search rules
 
 returns : tie.Need-returns
-unfolding slotRowOf
+unfolding slot_row_of
 returns c =
     let end = c.before.before in
     let len = end.before.before.before.before.before in

@@ -7,23 +7,23 @@ use lib.ListN.{length}
 use borrow.Author.Rules.{rules}
 use Rattle.plan_record.specs.Recorded.{run_of}
 use Rattle.spec_shelf.specs.Bytes.{written}
-use Rattle.spec_shelf.specs.Printed.{slotRowOf, slotRows, slotRowMost}
-use Rattle.row_write.specs.BytesLaws.{Wrote, wrote, wrote-rest, wrote-all}
-use Rattle.row_print.specs.PrintedLaws.{slot-row-most}
-use Rattle.row_slots.specs.RowLaws.{rows_from, rows-begin, rows_next, rows_end}
+use Rattle.spec_shelf.specs.Printed.{slot_row_of, slot_rows, slot_row_most}
+use Rattle.row_write.specs.BytesLaws.{Wrote, wrote, wrote_rest, wrote_all}
+use Rattle.row_print.specs.PrintedLaws.{slot_row_most_lem}
+use Rattle.row_slots.specs.RowLaws.{rows_from, rows_begin, rows_next, rows_end}
 use Rattle.row_slots.proofs.slot_rows.Statement.{statement}
 use Rattle.row_slots.proofs.slot_rows.Tie as tie
 
 abbrev invariant-loop : tie.invariant-loop
 invariant-loop out₀ at plan count end₀ n₀ out end n =
-    ((n ≤ count) × (end + slotRowMost * (count - n) ≤ length out) × (length out ≡ length out₀))
-    × Wrote out end (rows_from plan count n) (written out₀ at (slotRows count plan)) (at + length (slotRows count plan))
+    ((n ≤ count) × (end + slot_row_most * (count - n) ≤ length out) × (length out ≡ length out₀))
+    × Wrote out end (rows_from plan count n) (written out₀ at (slot_rows count plan)) (at + length (slot_rows count plan))
 
 abbrev decreases-loop : tie.decreases-loop
 decreases-loop out₀ at plan count end₀ n₀ out end n = count - n
 
 loop-holds : tie.Need-loop-init invariant-loop decreases-loop
-loop-holds c = ((omega arith, omega arith, refl), rw (rows-begin _ _) (record { place = refl; memory = refl }))
+loop-holds c = ((omega arith, omega arith, refl), rw (rows_begin _ _) (record { place = refl; memory = refl }))
 
 read-record-requires : tie.Need-read-record-requires invariant-loop decreases-loop
 read-record-requires c κs = search rules
@@ -44,10 +44,10 @@ loop-again c =
     let l = r.before.before in
     let s = l.before.before.before in
     let plan = s.args.plan.now in
-    let row = ap slotRowOf r.read-record.ensures in
+    let row = ap slot_row_of r.read-record.ensures in
     let left = rw (rows_next plan s.args.count l.loop.n (omega arith), ← row) at l.loop.invariant.1 in
-    let room = slot-row-most (run_of r.read-record.result) in
-    ((omega arith, omega arith, omega arith), wrote-rest left (wrote w.slot_row.ensures))
+    let room = slot_row_most_lem (run_of r.read-record.result) in
+    ((omega arith, omega arith, omega arith), wrote_rest left (wrote w.slot_row.ensures))
 
 same_length : tie.Need-same-length invariant-loop decreases-loop
 same_length c = search rules
@@ -56,7 +56,7 @@ returns : tie.Need-returns invariant-loop decreases-loop
 returns c =
     let l = c.before in
     let s = l.before.before.before in
-    wrote-all (rw (rows_end s.args.plan.now s.args.count l.loop.n (omega arith)) at l.loop.invariant.1)
+    wrote_all (rw (rows_end s.args.plan.now s.args.count l.loop.n (omega arith)) at l.loop.invariant.1)
 
 pub slot-rows-spec : {M : Type 1} → statement M
 slot-rows-spec =

@@ -2,7 +2,7 @@
 -- left. Assumes nothing.
 use native.Mathlib.Omega.{arith}
 use borrow.Author.Rules.{rules}
-use Rattle.row_write.specs.Groups.{Grouped, grouped-none, grouped-room, grouped-more}
+use Rattle.row_write.specs.Groups.{Grouped, grouped_none, grouped_room, grouped_more}
 use Rattle.row_write.proofs.groups_of.Statement.{statement}
 use Rattle.row_write.proofs.groups_of.Tie as tie
 
@@ -13,22 +13,22 @@ abbrev decreases-loop : tie.decreases-loop
 decreases-loop n front₀ count₀ behind₀ front count behind = front
 
 loop-holds : tie.Need-loop-init invariant-loop decreases-loop
-loop-holds c = grouped-none _ (omega arith)
+loop-holds c = grouped_none _ (omega arith)
 
 mul-behind : tie.Need-overflow-mul-behind invariant-loop decreases-loop
-mul-behind c = record { fits = omega (arith, grouped-room c.before.loop.invariant (omega arith)) }
+mul-behind c = record { fits = omega (arith, grouped_room c.before.loop.invariant (omega arith)) }
 
 array-write-behind : tie.Need-array-write-behind invariant-loop decreases-loop
-array-write-behind c = grouped-room c.before.loop.invariant (omega arith)
+array-write-behind c = grouped_room c.before.loop.invariant (omega arith)
 
 add-count : tie.Need-overflow-add-count invariant-loop decreases-loop
-add-count c = record { fits = omega (arith, grouped-room c.before.loop.invariant (omega arith)) }
+add-count c = record { fits = omega (arith, grouped_room c.before.loop.invariant (omega arith)) }
 
 loop-less : tie.Need-loop-smaller invariant-loop decreases-loop
 loop-less c = search rules
 
 loop-again : tie.Need-loop-preserved invariant-loop decreases-loop
-loop-again c = grouped-more c.before.loop.invariant (omega arith)
+loop-again c = grouped_more c.before.loop.invariant (omega arith)
 
 returns : tie.Need-returns invariant-loop decreases-loop
 returns c = (omega arith, c.before.loop.invariant)

@@ -6,7 +6,7 @@ use native.Mathlib.Omega.{arith}
 use lib.ListN.{length, length-set, drop_of_length-le}
 use borrow.Author.Rules.{rules}
 use Rattle.spec_shelf.specs.Bytes.{written}
-use Rattle.row_write.specs.BytesLaws.{BytesLeft, bytes-begin, bytes_next, wrote-all}
+use Rattle.row_write.specs.BytesLaws.{BytesLeft, bytes_begin, bytes_next, wrote_all}
 use Rattle.row_write.proofs.put_bytes.Statement.{statement}
 use Rattle.row_write.proofs.put_bytes.Tie as tie
 
@@ -18,7 +18,7 @@ abbrev decreases-loop : tie.decreases-loop
 decreases-loop out₀ at bytes i₀ i-end out i = length bytes - i
 
 loop-holds : tie.Need-loop-init invariant-loop decreases-loop
-loop-holds c = (omega arith, refl, bytes-begin c.args.out.now c.args.at c.args.bytes.now)
+loop-holds c = (omega arith, refl, bytes_begin c.args.out.now c.args.at c.args.bytes.now)
 
 shared-slice-read-out : tie.Need-shared-slice-read-out invariant-loop decreases-loop
 shared-slice-read-out c = search rules
@@ -53,7 +53,7 @@ same_length c = search rules
 returns : tie.Need-returns invariant-loop decreases-loop
 returns c =
     let l = c.before in
-    (refl, (wrote-all (rw (drop_of_length-le l.before.args.bytes.now {i = l.loop.i} (omega arith)) at l.loop.invariant.2)).1)
+    (refl, (wrote_all (rw (drop_of_length-le l.before.args.bytes.now {i = l.loop.i} (omega arith)) at l.loop.invariant.2)).1)
 
 pub put-bytes-spec : {M : Type 1} → statement M
 put-bytes-spec =

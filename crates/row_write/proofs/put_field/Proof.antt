@@ -2,7 +2,7 @@
 use native.Mathlib.Omega.{arith}
 use lib.ListN.{length-set}
 use borrow.Author.Rules.{rules}
-use Rattle.row_write.specs.BytesLaws.{wrote, contract, wrote-byte, wrote_then}
+use Rattle.row_write.specs.BytesLaws.{wrote, contract, wrote_byte, wrote_then}
 use Rattle.row_write.proofs.put_field.Statement.{statement}
 use Rattle.row_write.proofs.put_field.Tie as tie
 
@@ -24,7 +24,7 @@ returns : tie.Need-returns
 returns c =
     let w = c.before.before in
     let a = w.before.before.before.args in
-    contract (wrote_then (wrote-byte a.out.now a.at 44 (omega arith)) (wrote w.put-number.ensures))
+    contract (wrote_then (wrote_byte a.out.now a.at 44 (omega arith)) (wrote w.put-number.ensures))
 
 pub put-field-spec : {M : Type 1} → statement M
 put-field-spec =

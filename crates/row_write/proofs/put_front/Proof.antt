@@ -1,9 +1,9 @@
 -- `row_write::put_front` meets its contract: one digit, two or three. Assumes nothing.
 use Prim.Native.Nat.{◌+◌}
 use native.Mathlib.Omega.{arith}
-use Rattle.row_write.specs.Digits.{one-digit, two_digits}
-use Rattle.row_write.specs.Groups.{three-digits}
-use Rattle.row_write.specs.BytesLaws.{contract, wrote-byte}
+use Rattle.row_write.specs.Digits.{one_digit, two_digits}
+use Rattle.row_write.specs.Groups.{three_digits_lem}
+use Rattle.row_write.specs.BytesLaws.{contract, wrote_byte}
 use borrow.Author.Rules.{rules}
 use Rattle.row_write.proofs.put_front.Statement.{statement}
 use Rattle.row_write.proofs.put_front.Tie as tie
@@ -26,7 +26,7 @@ same_length c = search rules
 returns : tie.Need-returns
 returns c =
     let a = c.before.before.args in
-    contract (rw (one-digit a.n (omega arith)) (wrote-byte a.out.now a.at (48 + a.n) (omega arith)))
+    contract (rw (one_digit a.n (omega arith)) (wrote_byte a.out.now a.at (48 + a.n) (omega arith)))
 
 put-two-requires : tie.Need-put-two-requires
 put-two-requires c κs = search rules
@@ -50,7 +50,7 @@ returns-3 : tie.Need-returns-3
 returns-3 c =
     let w = c.before.before in
     let n = w.before.before.before.before.before.args.n in
-    rw (three-digits n (omega arith) (omega arith)) w.put_three.ensures
+    rw (three_digits_lem n (omega arith) (omega arith)) w.put_three.ensures
 
 pub put-front-spec : {M : Type 1} → statement M
 put-front-spec =

@@ -6,17 +6,17 @@ use native.Mathlib.Omega.{arith}
 use lib.ListN.{length}
 use borrow.Author.Rules.{rules}
 use Rattle.spec_shelf.specs.Bytes.{written}
-use Rattle.base_lists.specs.All.{all-at}
-use Rattle.row_write.specs.Digits.{decimal-most}
-use Rattle.row_write.specs.Groups.{groupDigits, group-next, grouped-length, grouped-few}
-use Rattle.row_write.specs.BytesLaws.{Wrote, wrote, contract, wrote_then, wrote-rest, wrote-all}
+use Rattle.base_lists.specs.All.{all_at}
+use Rattle.row_write.specs.Digits.{decimal_most}
+use Rattle.row_write.specs.Groups.{group_digits, group_next, grouped_length, grouped_few}
+use Rattle.row_write.specs.BytesLaws.{Wrote, wrote, contract, wrote_then, wrote_rest, wrote_all}
 use Rattle.row_write.proofs.put_number.Statement.{statement}
 use Rattle.row_write.proofs.put_number.Tie as tie
 
 abbrev invariant-loop : tie.invariant-loop
 invariant-loop out₀ at n behind end₀ k₀ out end k =
     ((k ≤ 3) × (length out ≡ length out₀) × (end + 3 * k ≤ length out))
-    × Wrote out end (groupDigits k behind) (written out₀ end₀ (groupDigits k₀ behind)) (end₀ + length (groupDigits k₀ behind))
+    × Wrote out end (group_digits k behind) (written out₀ end₀ (group_digits k₀ behind)) (end₀ + length (group_digits k₀ behind))
 
 abbrev decreases-loop : tie.decreases-loop
 decreases-loop out₀ at n behind end₀ k₀ out end k = k
@@ -40,7 +40,7 @@ loop-holds : tie.Need-loop-init invariant-loop decreases-loop
 loop-holds c =
     let g = c.before.before.before.before.before.groups_of.ensures.1 in
     let n = c.before.before.before.before.before.before.before.before.args.n in
-    ((grouped-few g, refl, omega (arith, grouped-length g, decimal-most n)), record { place = refl; memory = refl })
+    ((grouped_few g, refl, omega (arith, grouped_length g, decimal_most n)), record { place = refl; memory = refl })
 
 sub-k : tie.Need-overflow-sub-k invariant-loop decreases-loop
 sub-k c = search rules
@@ -55,7 +55,7 @@ put-three-requires : tie.Need-put-three-requires invariant-loop decreases-loop
 put-three-requires c κs =
     let l = c.before.before in
     let g = l.before.before.before.before.before.before.groups_of.ensures.1 in
-    (all-at (λ v. v < 1000) _ 0 g.below (l.loop.k - 1) (omega arith), omega arith)
+    (all_at (λ v. v < 1000) _ 0 g.below (l.loop.k - 1) (omega arith), omega arith)
 
 loop-less : tie.Need-loop-smaller invariant-loop decreases-loop
 loop-less c = search rules
@@ -64,8 +64,8 @@ loop-again : tie.Need-loop-preserved invariant-loop decreases-loop
 loop-again c =
     let w = c.before.before in
     let l = w.before.before.before in
-    let left = rw (group-next l.loop.k _ (omega arith)) at l.loop.invariant.1 in
-    ((omega arith, omega arith, omega arith), wrote-rest left (wrote w.put_three.ensures))
+    let left = rw (group_next l.loop.k _ (omega arith)) at l.loop.invariant.1 in
+    ((omega arith, omega arith, omega arith), wrote_rest left (wrote w.put_three.ensures))
 
 same-length-2 : tie.Need-same-length-2 invariant-loop decreases-loop
 same-length-2 c = search rules
@@ -76,7 +76,7 @@ returns-2 c =
     let f = l.before.before.before in
     let g = f.before.before.before.groups_of.ensures.1 in
     let none : l.loop.k ≡ 0 = omega arith in
-    let groups = wrote (wrote-all (rw none at l.loop.invariant.1)) in
+    let groups = wrote (wrote_all (rw none at l.loop.invariant.1)) in
     contract (rw g.digits (wrote_then (wrote f.put-front2.ensures) groups))
 
 pub put-number-spec : {M : Type 1} → statement M

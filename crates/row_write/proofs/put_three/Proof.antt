@@ -3,7 +3,7 @@ use mathlib.Core.Path.{◌≡◌}
 use Prim.Native.Nat.{◌+◌, ◌/◌, ◌%◌}
 use native.Mathlib.Omega.{arith}
 use lib.ListN.{length-set}
-use Rattle.row_write.specs.BytesLaws.{wrote, contract, wrote-byte, wrote_then}
+use Rattle.row_write.specs.BytesLaws.{wrote, contract, wrote_byte, wrote_then}
 use borrow.Author.Rules.{rules}
 use Rattle.row_write.proofs.put_three.Statement.{statement}
 use Rattle.row_write.proofs.put_three.Tie as tie
@@ -35,7 +35,7 @@ returns c =
     let tens : a.n % 100 / 10 ≡ a.n / 10 % 10 = omega arith in
     let ones : a.n % 100 % 10 ≡ a.n % 10 = omega arith in
     contract
-    (rw (← tens, ← ones) (wrote_then (wrote-byte a.out.now a.at (48 + a.n / 100) (omega arith)) (wrote w.put_two.ensures)))
+    (rw (← tens, ← ones) (wrote_then (wrote_byte a.out.now a.at (48 + a.n / 100) (omega arith)) (wrote w.put_two.ensures)))
 
 pub put-three-spec : {M : Type 1} → statement M
 put-three-spec =

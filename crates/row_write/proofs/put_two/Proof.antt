@@ -4,7 +4,7 @@ use Prim.Native.Nat.{◌+◌, ◌/◌, ◌%◌, ◌<◌}
 use native.Mathlib.Omega.{arith}
 use lib.ListN.{length, set, length-set}
 use borrow.Author.Rules.{rules}
-use Rattle.row_write.specs.BytesLaws.{contract, wrote-byte, wrote_then}
+use Rattle.row_write.specs.BytesLaws.{contract, wrote_byte, wrote_then}
 use Rattle.row_write.proofs.put_two.Statement.{statement}
 use Rattle.row_write.proofs.put_two.Tie as tie
 
@@ -38,9 +38,9 @@ same_length c = search rules
 returns : tie.Need-returns
 returns c =
     let a = c.args in
-    let first = wrote-byte a.out.now a.at (48 + a.n / 10) (omega arith) in
+    let first = wrote_byte a.out.now a.at (48 + a.n / 10) (omega arith) in
     let room : a.at + 1 < length (set a.out.now a.at (48 + a.n / 10)) = simp length-set (omega arith) in
-    (refl, (contract (wrote_then first (wrote-byte _ (a.at + 1) (48 + a.n % 10) room))).1)
+    (refl, (contract (wrote_then first (wrote_byte _ (a.at + 1) (48 + a.n % 10) room))).1)
 
 pub put-two-spec : {M : Type 1} → statement M
 put-two-spec =

@@ -4,7 +4,7 @@ use Prim.Native.Nat.{ℕ}
 use native.Mathlib.Omega.{arith}
 use lib.ListN.{length, take}
 use lib.Seq.{take_at}
-use Rattle.spec_shelf.specs.Printed.{headerRow, written}
+use Rattle.spec_shelf.specs.Printed.{header_row, written}
 use borrow.Author.Rules.{rules}
 use Rattle.shelf.proofs.main.Statement.{statement}
 use Rattle.shelf.proofs.main.Tie as tie
@@ -42,9 +42,9 @@ serve-all-requires c κs =
     let f = c.before.before.before.first-shelf in
     let p = c.before.before.before.before.before.put in
     let h = c.before.before.before.before.before.before.before.before.header_row in
-    let n : p.result.bytes ≡ length headerRow = omega (arith, p.ensures, h.ensures.0) in
+    let n : p.result.bytes ≡ length header_row = omega (arith, p.ensures, h.ensures.0) in
     let k = h.auto in
-    (f.ensures.0, ((n, ap₂ take n h.ensures.1 ∙ stands _ headerRow), (search rules, omega arith)))
+    (f.ensures.0, ((n, ap₂ take n h.ensures.1 ∙ stands _ header_row), (search rules, omega arith)))
 
 returns : tie.Need-returns
 returns c = search rules

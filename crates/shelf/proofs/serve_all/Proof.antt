@@ -12,23 +12,23 @@ use lib.ListN.{length}
 use borrow.Author.Rules.{rules}
 use borrow.Author.Tests.{not-true, not-false, leb-true, leb-false}
 use Rattle.libc.specs.Io.{Moved}
-use Rattle.spec_shelf.specs.Printed.{headerRow}
+use Rattle.spec_shelf.specs.Printed.{header_row}
 use Rattle.spec_shelf.specs.Room.{Ready}
-use Rattle.law_rows.specs.Ready.{ready-first}
-use Rattle.shelf_state.specs.Cutting.{firstShelf}
+use Rattle.law_rows.specs.Ready.{ready_first}
+use Rattle.shelf_state.specs.Cutting.{first_shelf}
 use Rattle.shelf_write.specs.declared.Flow.{Flow}
-use Rattle.shelf_write.specs.Flows.{flowThen, flowed-none, flowed-then}
-use Rattle.shelf.specs.Runs.{ends, mostBytes, Running, ran, running-on, gave-none, gave_some, write-failed}
+use Rattle.shelf_write.specs.Flows.{flow_then, flowed_none, flowed_then}
+use Rattle.shelf.specs.Runs.{ends, most_bytes, Running, ran, running_on, gave_none, gave_some, write_failed}
 use Rattle.shelf.proofs.serve_all.Statement.{statement}
 use Rattle.shelf.proofs.serve_all.Tie as tie
 
 abbrev invariant-loop : tie.invariant-loop
 invariant-loop header input₀ plan₀ out₀ flow₀ given₀ input plan out flow given =
-    Running false plan₀ flow plan × ((flow.taken ≡ given) × (Ready flow.shelf.state × ((given < mostBytes)
+    Running false plan₀ flow plan × ((flow.taken ≡ given) × (Ready flow.shelf.state × ((given < most_bytes)
     × ((length input ≡ length input₀) × ((length plan ≡ length plan₀) × (length out ≡ length out₀))))))
 
 abbrev decreases-loop : tie.decreases-loop
-decreases-loop header input₀ plan₀ out₀ flow₀ given₀ input plan out flow given = mostBytes - given
+decreases-loop header input₀ plan₀ out₀ flow₀ given₀ input plan out flow given = most_bytes - given
 
 -- one more read
 module _ (c : tie.After-serve-some invariant-loop decreases-loop) where
@@ -64,20 +64,20 @@ module _ (c : tie.After-serve-some invariant-loop decreases-loop) where
       → atLoop.loop.flow.taken + c.serve-some.result.taken ≡ atLoop.loop.given + atCount.count.result
   all-taken w = omega (arith, atLoop.loop.inv.1.0, c.serve-some.ensures.1.0.1 w, atCount.count.ensures.1)
 
-  running : Running (ends got) start.args.plan.now (flowThen atLoop.loop.flow c.serve-some.result)
+  running : Running (ends got) start.args.plan.now (flow_then atLoop.loop.flow c.serve-some.result)
       c.serve-some.new.1.1.1.0
-  running = (_, flowed-then atLoop.loop.inv.0.1 c.serve-some.ensures.0)
+  running = (_, flowed_then atLoop.loop.inv.0.1 c.serve-some.ensures.0)
 
-ready : Ready firstShelf.state
-unfolding firstShelf
-ready = ready-first
+ready : Ready first_shelf.state
+unfolding first_shelf
+ready = ready_first
 
 loop-holds : tie.Need-loop-init invariant-loop decreases-loop
 loop-holds c =
     let r = c.before.before.before in
     let p = r.requires in
     let n = p.1.0.0 in
-    (([], rw p.0 (flowed-none headerRow firstShelf _ (omega arith) n)), (refl, (rw p.0 ready, (search rules, (refl, (refl, refl))))))
+    (([], rw p.0 (flowed_none header_row first_shelf _ (omega arith) n)), (refl, (rw p.0 ready, (search rules, (refl, (refl, refl))))))
 
 read-requires : tie.Need-read-requires invariant-loop decreases-loop
 read-requires c κs = search rules
@@ -131,9 +131,9 @@ returns c =
           λ z. ap (λ (f : Flow). f.taken) e ∙ all-taken w (sym (ap (λ (f : Flow). f.well) e) ∙ z),
         ),
         λ h. ⊎_elim
-            (λ none. gave-none (got w) (room w) _ (moved w) (sym n ∙ none.taken))
+            (λ none. gave_none (got w) (room w) _ (moved w) (sym n ∙ none.taken))
             (⊎_elim
-            (λ lost. write-failed (got w) (not-true _ lost.2.taken))
+            (λ lost. write_failed (got w) (not-true _ lost.2.taken))
             (λ full. absurd (let at = full.3.taken in omega (arith, leb-true))))
             c.if1.branch,
       ),
@@ -156,7 +156,7 @@ loop-again c =
     let well = not-false _ c.before.if2.false in
     let on = c.if3.false in
     let k = w.serve-some.auto.1.1.1 in (
-      rw e (running-on some (running w)),
+      rw e (running_on some (running w)),
       (
         ap (λ (f : Flow). f.taken) e ∙ all-taken w (sym (ap (λ (f : Flow). f.well) e) ∙ well),
         (

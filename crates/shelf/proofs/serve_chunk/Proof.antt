@@ -7,9 +7,9 @@ use lib.ListN.{length, take, length-take}
 use borrow.Author.Rules.{rules}
 use Rattle.base_lists.specs.Tests.{clash}
 use Rattle.spec_shelf.specs.Room.{Ready}
-use Rattle.shelf_state.specs.Parts.{left-length}
+use Rattle.shelf_state.specs.Parts.{left_length}
 use Rattle.shelf_write.specs.declared.Flow.{Flow}
-use Rattle.shelf_write.specs.Flows.{Flowed, flowThen, flowed-none, flowed-part}
+use Rattle.shelf_write.specs.Flows.{Flowed, flow_then, flowed_none, flowed_part}
 use Rattle.shelf.proofs.serve_chunk.Statement.{statement}
 use Rattle.shelf.proofs.serve_chunk.Tie as tie
 
@@ -30,17 +30,17 @@ module _ (c : tie.After-serve-part invariant-loop decreases-loop) where
   start = atLoop.before.before.before.before
 
   abbrev next : Flow
-  next = flowThen atLoop.loop.flow c.serve-part.result
+  next = flow_then atLoop.loop.flow c.serve-part.result
 
   flowed : Flowed false start.args.s (take next.taken start.args.chunk.now) start.args.plan.now next
       c.serve-part.new.1.1.0
-  flowed = flowed-part start.args.chunk.now atLoop.loop.inv.0 c.serve-part.ensures.0.0
+  flowed = flowed_part start.args.chunk.now atLoop.loop.inv.0 c.serve-part.ensures.0.0
 
   inside : next.taken ≤ length start.args.chunk.now
   inside = omega (arith, flowed.bytes, length-take next.taken start.args.chunk.now)
 
 loop-holds : tie.Need-loop-init invariant-loop decreases-loop
-loop-holds c = (flowed-none [] _ _ (search rules) refl, (c.before.before.before.requires.0, (refl, refl)))
+loop-holds c = (flowed_none [] _ _ (search rules) refl, (c.before.before.before.requires.0, (refl, refl)))
 
 sub-serve-part : tie.Need-overflow-sub-serve-part invariant-loop decreases-loop
 sub-serve-part c = search rules
@@ -58,7 +58,7 @@ serve-part-requires c κs =
     let p = r.requires in
     let i = l.loop.invariant.1 in
     let on = c.before.before.before.before.before.if1.true in
-    (i.0, (omega (arith, left-length r.args.chunk.now l.loop.flow.taken), (omega arith, omega arith)))
+    (i.0, (omega (arith, left_length r.args.chunk.now l.loop.flow.taken), (omega arith, omega arith)))
 
 joined-requires : tie.Need-joined-requires invariant-loop decreases-loop
 joined-requires c κs =

@@ -14,8 +14,8 @@ use lib.Signed.{lt_z}
 use borrow.Author.Tests.{ltb-true}
 use Rattle.base_lists.specs.Tests.{clash}
 use Rattle.io.specs.Counts.{clamp_len}
-use Rattle.shelf_state.specs.Sizes.{last-most}
-use Rattle.shelf_write.specs.Flows.{flowed-none, flowed-last}
+use Rattle.shelf_state.specs.Sizes.{last_most}
+use Rattle.shelf_write.specs.Flows.{flowed_none, flowed_last}
 use Rattle.shelf.specs.Runs.{ends}
 use borrow.Author.Rules.{rules}
 use Rattle.shelf.proofs.serve_some.Statement.{statement}
@@ -51,7 +51,7 @@ returns : tie.Need-returns
 returns c =
     let r = c.before.before.before.before.before.before in
     let f = failed r.args.got (sign r ∙ c.before.before.if1.true) in (
-      rw f.0 (flowed-none [] r.args.s r.args.plan.now (search rules) refl),
+      rw f.0 (flowed_none [] r.args.s r.args.plan.now (search rules) refl),
       ((zero-le, λ _. f.1 _), (λ z. absurd (clash _ z f.0), r.requires.0)),
     )
 
@@ -71,8 +71,8 @@ returns-2 c =
     let t = c.before.before.before.before.before.before.before in
     let r = t.before.before.before.before.before in
     let z = ended r.args.got (sign r ∙ t.before.if1.false) t.if2.true in
-    let few : l.result.bytes < 2 ^ 64 = omega (arith, e.0, last-most r.args.s r.requires.0) in (
-      rw z (flowed-last r.args.s r.args.plan.now few e.0 e.1.1),
+    let few : l.result.bytes < 2 ^ 64 = omega (arith, e.0, last_most r.args.s r.requires.0) in (
+      rw z (flowed_last r.args.s r.args.plan.now few e.0 e.1.1),
       ((zero-le, λ _. sym (ap (λ g. clamp_len g (length r.args.input.now)) z ∙ zero-min _)), (λ _. e.1.0, r.requires.0)),
     )
 

@@ -2,11 +2,11 @@ use mathlib.Core.Path.{refl, sym, ◌∙◌}
 use mathlib.Core.List.{append-nil}
 use native.Mathlib.Omega.{arith}
 use borrow.Author.Tests.{not-true, not-false}
-use Rattle.spec_shelf.specs.Commands.{beaconVerb}
-use Rattle.spec_model.specs.Numbers.{beaconNumber}
+use Rattle.spec_shelf.specs.Commands.{beacon_verb}
+use Rattle.spec_model.specs.Numbers.{beacon_number}
 use Rattle.call_beacon.specs.Moves.{stays_put}
-use Rattle.row_print.specs.PrintedLaws.{wrote, wrote_then, contract, plain-row-most}
-use Rattle.spec_shelf.specs.Meaning.{stateAfter, planAfter, rowsFor}
+use Rattle.row_print.specs.PrintedLaws.{wrote, wrote_then, contract, plain_row_most}
+use Rattle.spec_shelf.specs.Meaning.{state_after, plan_after, rows_for}
 use Rattle.shelf_beacon.specs.Beacons.{Made, made}
 use borrow.Author.Rules.{rules}
 use Rattle.shelf_beacon.proofs.answer_beacon.Statement.{statement}
@@ -19,7 +19,7 @@ same_length : tie.Need-same-length
 same_length c = search rules
 
 returns : tie.Need-returns
-unfolding stateAfter planAfter rowsFor
+unfolding state_after plan_after rows_for
 returns c =
     let i = c.before.before.before.before in
     let s = i.before.before.before in
@@ -34,7 +34,7 @@ plan-interval-requires c κs =
 
 -- what the plan's call has given
 found : (c : tie.After-plan-interval) → (let p = c.plan-interval in let a = c.before.before.before.before.before.args in
-    Made a.t a.plan.now (beaconNumber p.result.answer) p.result.count p.result.used p.result.shares p.new.1.0)
+    Made a.t a.plan.now (beacon_number p.result.answer) p.result.count p.result.used p.result.shares p.new.1.0)
 found c =
     let i = c.before.before in
     let s = i.before.before.before in
@@ -57,7 +57,7 @@ slot-rows-requires c κs =
     let m = found p in
     let k = p.plan-interval.auto in
     let o = row.plain-Row.auto in
-    let l = plain-row-most beaconVerb n.beacon-number.result in
+    let l = plain_row_most beacon_verb n.beacon-number.result in
     let e = row.plain-Row.ensures.0 in
     let f = m.few in
     (omega arith, omega arith)
@@ -69,7 +69,7 @@ same-length-3 : tie.Need-same-length-3
 same-length-3 c = search rules
 
 returns-2 : tie.Need-returns-2
-unfolding stateAfter planAfter rowsFor
+unfolding state_after plan_after rows_for
 returns-2 c =
     let row = c.before.before.before.before.before.before.before.before in
     let n = row.before.before.before in

@@ -6,8 +6,8 @@ use borrow.Author.Tests.{eq-eqb, ne_eqb}
 use Rattle.row_cut.specs.Lines.{unheld}
 use Rattle.row_cut.specs.declared.Line.{Line}
 use Rattle.row_print.specs.PrintedLaws.{written_none}
-use Rattle.shelf_state.specs.Cutting.{lastRows, lastPlan}
-use Rattle.shelf_end.specs.Last.{last-served}
+use Rattle.shelf_state.specs.Cutting.{last_rows, last_plan}
+use Rattle.shelf_end.specs.Last.{last_served}
 use borrow.Author.Rules.{rules}
 use Rattle.shelf_end.proofs.finish.Statement.{statement}
 use Rattle.shelf_end.proofs.finish.Tie as tie
@@ -16,7 +16,7 @@ unheld-requires : tie.Need-unheld-requires
 unheld-requires c κs = search rules
 
 returns : tie.Need-returns
-unfolding lastRows lastPlan
+unfolding last_rows last_plan
 returns c =
     let s = c.before.before.before.before.before.args.s in
     let z : eqb (unheld s.reader).len 0 ≡ true =
@@ -42,7 +42,7 @@ returns-2 c =
     let a = s.args in
     let z = ne_eqb _ _ (λ q. i.if1.false (ap (λ (l : Line). l.len) i.before.before.unheld.ensures ∙ q)) in
     let r = c.before.before.before.before.serve-rows in
-    last-served a.s r.result.taken a.at a.out.now a.plan.now z s.requires.1.1 r.ensures.0.1 r.ensures.1.1
+    last_served a.s r.result.taken a.at a.out.now a.plan.now z s.requires.1.1 r.ensures.0.1 r.ensures.1.1
 
 pub finish_spec : {M : Type 1} → statement M
 finish_spec =

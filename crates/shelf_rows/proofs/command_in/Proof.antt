@@ -1,11 +1,11 @@
 use mathlib.Core.Path.{◌≡◌, refl, sym, ◌∙◌}
 use mathlib.Core.Bool.{true, false}
 use lib.Dec.{leb}
-use Rattle.spec_text.specs.Rows.{rowMost}
+use Rattle.spec_text.specs.Rows.{row_most}
 use native.Mathlib.Omega.{arith}
 use borrow.Author.Tests.{le-leb, lt-leb}
 use lib.ListN.{length-take}
-use Rattle.shelf_state.specs.Cutting.{commandIn}
+use Rattle.shelf_state.specs.Cutting.{command_in}
 use Rattle.row_cut.proofs.Known.{bytes_most}
 use borrow.Author.Rules.{rules}
 use Rattle.shelf_rows.proofs.command_in.Statement.{statement}
@@ -25,16 +25,16 @@ command-of-requires : tie.Need-command-of-requires
 command-of-requires c κs = search rules
 
 returns : tie.Need-returns
-unfolding commandIn
+unfolding command_in
 returns c =
     let r4 = c.before.before.before.before in
-    let short : leb r4.args.line.len rowMost ≡ true = le-leb _ _ c.before.before.before.if1.true in
+    let short : leb r4.args.line.len row_most ≡ true = le-leb _ _ c.before.before.before.if1.true in
     rw short c.command-of.ensures
 
 returns-2 : tie.Need-returns-2
-unfolding commandIn
+unfolding command_in
 returns-2 c =
-    let long : leb c.before.args.line.len rowMost ≡ false = lt-leb _ _ c.if1.false in
+    let long : leb c.before.args.line.len row_most ≡ false = lt-leb _ _ c.if1.false in
     rw long refl
 
 pub command-in-spec : {M : Type 1} → statement M

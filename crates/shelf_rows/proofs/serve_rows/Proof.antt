@@ -10,20 +10,20 @@ use Rattle.spec_shelf.specs.declared.Command.{Command}
 use Rattle.spec_shelf.specs.declared.Command.TheVariants.{Offer, Withdraw}
 use Rattle.spec_shelf.specs.Printed.{written}
 use Rattle.spec_shelf.specs.declared.State.{State}
-use Rattle.spec_shelf.specs.Room.{answerMost, state_of, Ready}
-use Rattle.law_rows.specs.Puts.{put-none}
-use Rattle.law_rows.specs.Ready.{ready-after}
-use Rattle.law_rows.specs.Sizes.{rows-most}
-use Rattle.spec_shelf.specs.Meaning.{withTable, stateAfter, planAfter, rowsFor}
+use Rattle.spec_shelf.specs.Room.{answer_most, state_of, Ready}
+use Rattle.law_rows.specs.Puts.{put_none}
+use Rattle.law_rows.specs.Ready.{ready_after}
+use Rattle.law_rows.specs.Sizes.{rows_most}
+use Rattle.spec_shelf.specs.Meaning.{with_table, state_after, plan_after, rows_for}
 use Rattle.shelf_beacon.specs.Moved.{movable, moved_on, stayed}
 use Rattle.shelf_state.specs.declared.Shelf.{Shelf}
-use Rattle.shelf_state.specs.Parts.{Done, shelfOf, done_none, done-open, done-row, cut-some}
+use Rattle.shelf_state.specs.Parts.{Done, shelf_of, done_none, done_open, done_row, cut_some}
 use Rattle.shelf_rows.proofs.serve_rows.Statement.{statement}
 use Rattle.shelf_rows.proofs.serve_rows.Tie as tie
 
 abbrev invariant-loop : tie.invariant-loop
 invariant-loop chunk plan₀ out₀ at reader₀ ready₀ table₀ taken₀ next₀ last t27 plan out reader ready table taken next =
-    Done (shelfOf reader₀ (state_of ready₀ table₀)) (take taken chunk) plan₀ out₀ next₀ (shelfOf reader (state_of ready table)) next plan out
+    Done (shelf_of reader₀ (state_of ready₀ table₀)) (take taken chunk) plan₀ out₀ next₀ (shelf_of reader (state_of ready table)) next plan out
     × (Ready (state_of ready table)
     × ((taken ≤ length chunk) × ((next ≤ length out₀) × ((length plan ≡ length plan₀) × (length out ≡ length out₀)))))
 
@@ -61,7 +61,7 @@ abbrev state : tie.After-cut-row invariant-loop decreases-loop → State
 state c = (let l = (turn c).loop in state_of l.ready l.table)
 
 abbrev shelf : tie.After-cut-row invariant-loop decreases-loop → Shelf
-shelf c = shelfOf (turn c).loop.reader (state c)
+shelf c = shelf_of (turn c).loop.reader (state c)
 
 abbrev bytes : tie.After-cut-row invariant-loop decreases-loop → List ℕ
 bytes c = (entry c).args.chunk.now
@@ -71,16 +71,16 @@ abbrev done : tie.After-cut-row invariant-loop decreases-loop → ℕ
 done c = (turn c).loop.taken + c.cut-row.result.taken
 
 some : (c : tie.After-cut-row invariant-loop decreases-loop) → (done c ≤ length (bytes c)) × (0 < c.cut-row.result.taken)
-some c = cut-some (shelf c) (bytes c) (turn c).loop.taken c.cut-row.ensures c.before.before.before.loop-test.true
+some c = cut_some (shelf c) (bytes c) (turn c).loop.taken c.cut-row.ensures c.before.before.before.loop-test.true
 
 less : (c : tie.After-cut-row invariant-loop decreases-loop) → length (bytes c) - done c < length (bytes c) - (turn c).loop.taken
 less c = omega (arith, some c)
 
 -- an answer has room
-room : (c : tie.After-cut-row invariant-loop decreases-loop) → (turn c).loop.next + answerMost ≤ length (turn c).loop.out
+room : (c : tie.After-cut-row invariant-loop decreases-loop) → (turn c).loop.next + answer_most ≤ length (turn c).loop.out
 room c =
     let most = (entry c).requires.1.1 in
-    let spare = leb-true (turn c).loop.next (length (entry c).args.out.now - answerMost) c.before.before.if1.true in
+    let spare = leb-true (turn c).loop.next (length (entry c).args.out.now - answer_most) c.before.before.if1.true in
     let same = (turn c).loop.invariant.1.1.1.1.1 in
     omega arith
 
@@ -103,13 +103,13 @@ cut c = c.before.before.before.before.before
 
 -- what the next turn begins with, by what the answer says
 again : (c : tie.After-command-in invariant-loop decreases-loop) {q : Command} {after : State} {words rows : List ℕ} {end : ℕ} → c.command-in.result ≡ q
-    → (let l = (turn (cut c)).loop in let s = state (cut c) in let bs = rowsFor s q in
-    (after ≡ stateAfter s q)
-    × ((end ≡ l.next + length bs) × ((rows ≡ written l.out l.next bs) × (words ≡ planAfter s q l.plan))))
+    → (let l = (turn (cut c)).loop in let s = state (cut c) in let bs = rows_for s q in
+    (after ≡ state_after s q)
+    × ((end ≡ l.next + length bs) × ((rows ≡ written l.out l.next bs) × (words ≡ plan_after s q l.plan))))
     → (let l = (turn (cut c)).loop in (length words ≡ length l.plan) × (length rows ≡ length l.out))
     → (let a = (entry (cut c)).args in
     Done a.s (take (done (cut c)) a.chunk.now) a.plan.now a.out.now a.at
-    (shelfOf c.before.at-start.result after) end words rows
+    (shelf_of c.before.at-start.result after) end words rows
     × (Ready after
     × ((done (cut c) ≤ length a.chunk.now)
     × ((end ≤ length a.out.now) × ((length words ≡ length a.plan.now) × (length rows ≡ length a.out.now))))))
@@ -120,11 +120,11 @@ again c {q} told a k =
     let spare = room r in
     let same = i.1.1.1.1 in
     let place = a.1.0 in
-    let most = rows-most (state r) q i.1.0 in (
-      done-row (shelf r) (bytes r) l.taken r.cut-row.ensures i.0 c.before.before.if2.true
+    let most = rows_most (state r) q i.1.0 in (
+      done_row (shelf r) (bytes r) l.taken r.cut-row.ensures i.0 c.before.before.if2.true
           (sym told ∙ c.command-in.ensures) c.before.at-start.ensures a,
       (
-        subst Ready (sym a.0) (ready-after (state r) _ i.1.0),
+        subst Ready (sym a.0) (ready_after (state r) _ i.1.0),
         ((some r).0, (omega arith, (omega arith, omega arith))),
       ),
     )
@@ -142,20 +142,20 @@ loop-less : tie.Need-loop-smaller invariant-loop decreases-loop
 loop-less c = less (cut c.before.before.before.before.before.before.before.before.before)
 
 loop-again : tie.Need-loop-preserved invariant-loop decreases-loop
-unfolding stateAfter planAfter rowsFor
+unfolding state_after plan_after rows_for
 loop-again c =
     let o = c.before.before.before.before in
     let e = o.answer-open.ensures in
     let told = c.before.before.before.before.before.before.before.setting.given.1 in
     let opens = sym e.0 ∙ c.before.if3.true in
     again c.before.before.before.before.before.before.before.before.before
-    told (rw opens (ap withTable c.opened-table.ensures), (e.1.0, (e.1.1, refl))) (refl, o.answer-open.auto.1.0)
+    told (rw opens (ap with_table c.opened-table.ensures), (e.1.0, (e.1.1, refl))) (refl, o.answer-open.auto.1.0)
 
 loop-less-2 : tie.Need-loop-smaller-2 invariant-loop decreases-loop
 loop-less-2 c = less (cut c.before.before.before.before.before.before.before.before)
 
 loop-again-2 : tie.Need-loop-preserved-2 invariant-loop decreases-loop
-unfolding stateAfter planAfter rowsFor
+unfolding state_after plan_after rows_for
 loop-again-2 c =
     let o = c.before.before.before in
     let e = o.answer-open.ensures in
@@ -180,7 +180,7 @@ loop-less-3 : tie.Need-loop-smaller-3 invariant-loop decreases-loop
 loop-less-3 c = less (cut c.before.before.before.before.before.before.before.before.before)
 
 loop-again-3 : tie.Need-loop-preserved-3 invariant-loop decreases-loop
-unfolding planAfter
+unfolding plan_after
 loop-again-3 c =
     let p = c.before.before.before.before in
     let e = p.answer-offer.ensures in
@@ -192,7 +192,7 @@ loop-less-4 : tie.Need-loop-smaller-4 invariant-loop decreases-loop
 loop-less-4 c = less (cut c.before.before.before.before.before.before.before.before)
 
 loop-again-4 : tie.Need-loop-preserved-4 invariant-loop decreases-loop
-unfolding stateAfter planAfter
+unfolding state_after plan_after
 loop-again-4 c =
     let p = c.before.before.before in
     let e = p.answer-offer.ensures in
@@ -200,7 +200,7 @@ loop-again-4 c =
     let told = c.before.before.before.before.before.before.q.given in
     let k = c.before.before.before.before.before.before.before.before in
     let l = (turn (cut k)).loop in
-    let none = put-none l.ready l.table (Offer told.0.0) r.place r.entry l.inv.1.0 refl c.if4.false e.0 in
+    let none = put_none l.ready l.table (Offer told.0.0) r.place r.entry l.inv.1.0 refl c.if4.false e.0 in
     again k told.1 (none, (e.1.0, (e.1.1, refl))) (refl, p.answer-offer.auto.1.1.1.0)
 
 enum-known-name : tie.Need-enum-known-name invariant-loop decreases-loop
@@ -219,7 +219,7 @@ loop-less-5 : tie.Need-loop-smaller-5 invariant-loop decreases-loop
 loop-less-5 c = less (cut c.before.before.before.before.before.before.before.before.before)
 
 loop-again-5 : tie.Need-loop-preserved-5 invariant-loop decreases-loop
-unfolding planAfter
+unfolding plan_after
 loop-again-5 c =
     let p = c.before.before.before.before in
     let e = p.answer-withdraw.ensures in
@@ -231,7 +231,7 @@ loop-less-6 : tie.Need-loop-smaller-6 invariant-loop decreases-loop
 loop-less-6 c = less (cut c.before.before.before.before.before.before.before.before)
 
 loop-again-6 : tie.Need-loop-preserved-6 invariant-loop decreases-loop
-unfolding stateAfter planAfter
+unfolding state_after plan_after
 loop-again-6 c =
     let p = c.before.before.before in
     let e = p.answer-withdraw.ensures in
@@ -239,7 +239,7 @@ loop-again-6 c =
     let told = c.before.before.before.before.before.before.name.given in
     let k = c.before.before.before.before.before.before.before.before in
     let l = (turn (cut k)).loop in
-    let none = put-none l.ready l.table (Withdraw told.0.0) r.place r.entry l.inv.1.0 refl c.if5.false e.0 in
+    let none = put_none l.ready l.table (Withdraw told.0.0) r.place r.entry l.inv.1.0 refl c.if5.false e.0 in
     again k told.1 (none, (e.1.0, (e.1.1, refl))) (refl, p.answer-withdraw.auto.1.1.1.0)
 
 enum_told : tie.Need-enum-told invariant-loop decreases-loop
@@ -294,7 +294,7 @@ loop-less-9 : tie.Need-loop-smaller-9 invariant-loop decreases-loop
 loop-less-9 c = less (cut c.before.before.before.before.before.before.before)
 
 loop-again-9 : tie.Need-loop-preserved-9 invariant-loop decreases-loop
-unfolding stateAfter planAfter rowsFor
+unfolding state_after plan_after rows_for
 loop-again-9 c =
     let w = c.before.before.plain-Row in
     let told = c.before.before.before.before.before.enum-told2.given.1 in
@@ -309,7 +309,7 @@ loop-again-10 : tie.Need-loop-preserved-10 invariant-loop decreases-loop
 loop-again-10 c =
     let r = c.before.before.before in
     let i = (turn r).loop.invariant in (
-      done-open (shelf r) (bytes r) (turn r).loop.taken r.cut-row.ensures i.0 c.if2.false,
+      done_open (shelf r) (bytes r) (turn r).loop.taken r.cut-row.ensures i.0 c.if2.false,
       (i.1.0, ((some r).0, i.1.1.1)),
     )
 
@@ -325,10 +325,10 @@ same-length-2 c = c.before.before.loop.invariant.1.1.1.1.1
 -- the chunk is used up, or an answer might not fit
 far : (c : tie.Left-loop invariant-loop decreases-loop)
     → (let l = c.before.loop in let a = c.before.before.before.before.before.before.before.before.args in
-    l.next + answerMost ≤ length a.out.now → l.taken ≡ length a.chunk.now)
+    l.next + answer_most ≤ length a.out.now → l.taken ≡ length a.chunk.now)
 far c h =
     let l = c.before.loop in
-    let last = length c.before.before.before.before.before.before.before.before.args.out.now - answerMost in
+    let last = length c.before.before.before.before.before.before.before.before.args.out.now - answer_most in
     let most = l.invariant.1.1.0 in
     ⊎_elim (λ w. omega (arith, leb-false l.next last w.1.left)) (λ w. omega (arith, w.left)) c.loop-test.branch
 

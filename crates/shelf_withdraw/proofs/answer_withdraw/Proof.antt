@@ -2,8 +2,8 @@ use mathlib.Core.Path.{sym, ap, ◌∙◌}
 use native.Mathlib.Omega.{arith}
 use borrow.Author.Tests.{not-true, not-false}
 use Rattle.table_places.proofs.Known.{past}
-use Rattle.law_rows.specs.Puts.{none-put}
-use Rattle.spec_shelf.specs.Meaning.{withTable, stateAfter, rowsFor}
+use Rattle.law_rows.specs.Puts.{none_put}
+use Rattle.spec_shelf.specs.Meaning.{with_table, state_after, rows_for}
 use borrow.Author.Rules.{rules}
 use Rattle.shelf_withdraw.proofs.answer_withdraw.Statement.{statement}
 use Rattle.shelf_withdraw.proofs.answer_withdraw.Tie as tie
@@ -21,12 +21,12 @@ same_length : tie.Need-same-length
 same_length c = search rules
 
 returns : tie.Need-returns
-unfolding stateAfter rowsFor
+unfolding state_after rows_for
 returns c =
     let i = c.before.before.before.before.before.before in
     let s = i.before.before in
     rw (not-true s.args.ready i.if1.true, c.nothing_put.ensures)
-    (none-put s.args.t _ _ (past s.args.t s.well-formed.1.0 (omega arith)), c.before.before.before.stream-row.ensures)
+    (none_put s.args.t _ _ (past s.args.t s.well-formed.1.0 (omega arith)), c.before.before.before.stream-row.ensures)
 
 release-requires : tie.Need-release-requires
 release-requires c κs = c.before.before.requires.0 (not-false c.before.before.args.ready c.if1.false)
@@ -47,14 +47,14 @@ same-length-2 : tie.Need-same-length-2
 same-length-2 c = search rules
 
 returns-2 : tie.Need-returns-2
-unfolding stateAfter rowsFor
+unfolding state_after rows_for
 returns-2 c =
     let n = c.before.before.before.before.before.before in
     let r = n.before in
     let s = r.before.before.before in
     let q = n.held_number.ensures ∙ r.release.ensures.0 in
     rw (not-false s.args.ready r.before.if1.false, sym q, c.free-entry.ensures)
-    (ap withTable r.release.ensures.1, c.before.before.before.stream-row2.ensures)
+    (ap with_table r.release.ensures.1, c.before.before.before.stream-row2.ensures)
 
 pub answer-withdraw-spec : {M : Type 1} → statement M
 answer-withdraw-spec =

@@ -1,5 +1,5 @@
 use Rattle.std.proofs.Common.{arith, rules}
-use Rattle.shelf_state.specs.Sizes.{last-most}
+use Rattle.shelf_state.specs.Sizes.{last_most}
 use Rattle.shelf_write.proofs.serve_last.Statement.{statement}
 use Rattle.shelf_write.proofs.serve_last.Tie as tie
 
@@ -12,7 +12,7 @@ put-requires c κs =
     let r = f.before.before.before.before.before in
     let p = r.requires in
     let e = f.finish.ensures.0 in
-    let m = last-most r.args.s p.0 in
+    let m = last_most r.args.s p.0 in
     let k = f.finish.auto in
     omega arith
 

@@ -1,7 +1,7 @@
 use Rattle.std.proofs.Common.{◌≡◌, ◌^◌, ◌<◌, length, take, sym, arith, length-take-le, rules}
-use Rattle.shelf_state.specs.Whole.{chunkRows}
-use Rattle.shelf_state.specs.Parts.{part-some}
-use Rattle.shelf_write.specs.Flows.{counted-few}
+use Rattle.shelf_state.specs.Whole.{chunk_rows}
+use Rattle.shelf_state.specs.Parts.{part_some}
+use Rattle.shelf_write.specs.Flows.{counted_few}
 use Rattle.shelf_write.proofs.serve_part.Statement.{statement}
 use Rattle.shelf_write.proofs.serve_part.Tie as tie
 
@@ -26,19 +26,19 @@ returns c =
     let far = e.1.1 in
     let chunk = r.args.chunk.now in
     let n = f.serve-rows.result.taken in
-    let rows = chunkRows r.args.s (take n chunk) in
+    let rows = chunk_rows r.args.s (take n chunk) in
     let size : c.before.put.result.bytes ≡ length rows = omega (arith, c.before.put.ensures, e.0.1.0) in
     let few : c.before.put.result.bytes < 2 ^ 64 = omega (arith, e.0.1.0) in (
       (
         record {
           bytes = sym (length-take-le n chunk far.0);
           shelf = e.0.0;
-          rows = counted-few rows few size;
+          rows = counted_few rows few size;
           memory = e.0.1.1.1;
         },
         e.0.1.1.0,
       ),
-      (part-some r.args.s chunk n 0 p.1.0 (omega arith) e.0.1.0 far.1.1, e.1.0),
+      (part_some r.args.s chunk n 0 p.1.0 (omega arith) e.0.1.0 far.1.1, e.1.0),
     )
 
 pub serve-part-spec : {M : Type 1} → statement M

@@ -38,10 +38,10 @@ use denote.Triple.Table.{entered, cited}
 use sound.WpLaws.{fm_of}
 use borrow.Author.Tests.{lt-ltb, le-ltb, ltb-true, ltb-false}
 use Rattle.base_lists.specs.Tests.{either}
-use Rattle.base_lists.specs.First.{first_of, first_found, first-passed, first_ended}
-use Rattle.spec_model.specs.Names.{isNobody}
-use Rattle.spec_model.specs.Entries.{freeEntry, isNamed}
-use Rattle.spec_model.specs.Tables.{places, noPlace}
+use Rattle.base_lists.specs.First.{first_of, first_found, first_passed, first_ended}
+use Rattle.spec_model.specs.Names.{is_nobody}
+use Rattle.spec_model.specs.Entries.{free_entry, is_named}
+use Rattle.spec_model.specs.Tables.{places, no_place}
 use Rattle.spec_model.specs.declared.Name.{Name}
 use Rattle.spec_model.specs.declared.Table.{Table}
 use Rattle.spec_model.proofs.Name.TheLaws as Name'
@@ -54,31 +54,31 @@ use Rattle.spec_model.proofs.same.Symbol as same-def
 use Rattle.spec_model.proofs.same.Symbol.{name as #spec-model·same}
 use Rattle.spec_model.proofs.same.Met as same-thm
 use Rattle.table_places.proofs.Known.{inside, past}
-use Rattle.table_places.specs.Search.{isHeldAs, held-by-name}
+use Rattle.table_places.specs.Search.{is_held_as, held_by_name}
 use Rattle.table_places.proofs.Nobody.{nobody}
-use Rattle.table_places.proofs.Named.{nameVal, typed-name, entry_named, Same, Nobody, asks-nobody, asks-same}
+use Rattle.table_places.proofs.Named.{name_val, typed_name, entry_named, Same, Nobody, asks_nobody, asks_same}
 use Rattle.law_lent.proofs.Lent.{lent}
-use Rattle.law_lent.proofs.Beside.{Plain, name-beside, Values, machines, AreValues}
+use Rattle.law_lent.proofs.Beside.{Plain, name_beside, Values, machines, AreValues}
 use Rattle.law_lent.proofs.Locals.{locals, cell, enters, freed, forgets, keeps, value, part, sets, receives}
 use Rattle.law_lent.proofs.Walk.{is_true, is_false, tests}
-use Rattle.law_lent.proofs.Entries.{table_at, at_place, typed-entry, entry-reached, entry_read}
-use Rattle.law_lent.proofs.Looked.{look as loan, Shared, Post, exits, look-meets, look-opens, look-shuts}
+use Rattle.law_lent.proofs.Entries.{table_at, at_place, typed_entry, entry_reached, entry_read}
+use Rattle.law_lent.proofs.Looked.{look as loan, Shared, Post, exits, look_meets, look_opens, look_shuts}
 use Rattle.table_places.specs.contracts.place_in.Key.{name as #table-places·place-in}
 use Rattle.table_places.specs.contracts.place_in as lent'
 use Rattle.table_places.proofs.place_in.Statement as stated
 use Rattle.table_places.proofs.place_in.Code as code
 
 abbrev Beside : List Plain
-Beside = name-beside ∷ []
+Beside = name_beside ∷ []
 
 abbrev Says : (κ : Lft) → Table → Values Beside κ → ℕ → Type 0
-Says κ t n r = r ≡ first_of (isHeldAs n.0) t.entries
+Says κ t n r = r ≡ first_of (is_held_as n.0) t.entries
 
 -- i places are passed
 record Turn (t : Table) (n : Name) : Type 0 where
   i : ℕ
   upto : i ≤ places
-  so : i + first_of (isHeldAs n) (drop i t.entries) ≡ first_of (isHeldAs n) t.entries
+  so : i + first_of (is_held_as n) (drop i t.entries) ≡ first_of (is_held_as n) t.entries
 
 module _ {M : Type 1} {𝓤 : Ura M} (𝓛 : Logic 𝓤) (at_mem : Memory → SProp 𝓤) (run : Routine → Fun 𝓤)
     (𝓣 : Tables 𝓤 𝓛.H) (known-nobody : Triple 𝓤 (𝓣.C #spec-model·is-nobody) (Nobody 𝓛 at_mem run))
@@ -108,7 +108,7 @@ module _ {M : Type 1} {𝓤 : Ura M} (𝓛 : Logic 𝓤) (at_mem : Memory → SP
   abbrev ref : Ty
   ref = ty_ref (lifetime 0) imm (pointee (T.the_row).written)
 
-  module _ (held : isNobody n ≡ false) (s : Share) {vs : List Val} (was : Is T.the_row h vs) (l₀ l₁ l₂ l₃ l₄ l₅ l₆ l₇ l₈ l₉ l₁₀ l₁₁ : ℕ) where
+  module _ (held : is_nobody n ≡ false) (s : Share) {vs : List Val} (was : Is T.the_row h vs) (l₀ l₁ l₂ l₃ l₄ l₅ l₆ l₇ l₈ l₉ l₁₀ l₁₁ : ℕ) where
     abbrev En : Env 𝓤 H
     En = (word, l₀) ∷ (ref, l₁) ∷ (Name'.mir, l₂) ∷ (word, l₃) ∷ (N'.mir, l₄) ∷ (ty_bool, l₅) ∷ (ty_bool, l₆) ∷ (word, l₇) ∷ (ty_ptr, l₈)
         ∷ (ty_ptr, l₉) ∷ (N'.mir, l₁₀) ∷ (ty_bool, l₁₁) ∷ []
@@ -116,7 +116,7 @@ module _ {M : Type 1} {𝓤 : Ura M} (𝓛 : Logic 𝓤) (at_mem : Memory → SP
     -- the locals: _1 has the pointer to the table, _2 the name and _3 the place
     abbrev had : ℕ → List (Option Val)
     had i =
-        none ∷ some (vptr b o) ∷ some (nameVal n) ∷ some (vint w64 i) ∷ none ∷ none ∷ none ∷ none ∷ none ∷ none ∷ none ∷ none ∷ []
+        none ∷ some (vptr b o) ∷ some (name_val n) ∷ some (vint w64 i) ∷ none ∷ none ∷ none ∷ none ∷ none ∷ none ∷ none ∷ none ∷ []
 
     abbrev At : Turn h n → List (Item 𝓤)
     At t = ‵ (table_at s h b o) ∷ locals 𝓤 En (had t.i) ∷ ‵ (fobor κ q (table_at s h b o)) ∷ ‵ (loan κ h b o) ∷ ‵ (fres γ (lent h)) ∷ []
@@ -133,20 +133,20 @@ module _ {M : Type 1} {𝓤 : Ura M} (𝓛 : Logic 𝓤) (at_mem : Memory → SP
         sets ! 1 refl tt (bin ! (value ! 1 refl refl) (lit ! tt) tt) (tt, tt) $
         rewrite ! 1 (λ (z : Bool). locals 𝓤 En (set (had t.i) 6 (some (vbool z)))) (lt-ltb _ _ less) refl $
         stays ! (value ! 1 refl refl) $
-        entry-reached b o t.i ! less (refl, refl, refl, tt, tt, tt, refl, refl, refl, refl) $
+        entry_reached b o t.i ! less (refl, refl, refl, tt, tt, tt, refl, refl, refl, refl) $
         entry_read b o t.i ! less refl tt refl s h (λ is.
-        sets ! 1 refl tt (of_opd ! (value ! 1 refl refl)) (typed-entry 𝓛 (at_place h t.i) is) $
-        asks-same at_mem run ! (fm_of 𝓤 H 𝓛.laws 𝓣) known_same (at_place h t.i).name (entry_named (at_place h t.i) is) n are.0
+        sets ! 1 refl tt (of_opd ! (value ! 1 refl refl)) (typed_entry 𝓛 (at_place h t.i) is) $
+        asks_same at_mem run ! (fm_of 𝓤 H 𝓛.laws 𝓣) known_same (at_place h t.i).name (entry_named (at_place h t.i) is) n are.0
         (and_then ! (part ! 2 refl refl refl tt) (and_then ! (value ! 2 refl refl) (no_more !))) (λ r e.
         receives ! 1 refl tt (tt, tt) $
         tests ! (value ! 1 refl refl)
         (λ on.
         let word_fits : t.i < 2 ^ 64 = omega arith in
         sets ! 1 refl tt (of_opd ! (value ! 1 refl refl)) (tt, record { fits = word_fits }) $
-        move ! (0 ∷ 2 ∷ []) $ look-shuts h b o ! tt s $
+        move ! (0 ∷ 2 ∷ []) $ look_shuts h b o ! tt s $
         -- [the token; the locals; the loan; res]
         returns_within ! Ends refl (look_in ! 1 (cell ! 0 refl)) $ move ! (1 ∷ 3 ∷ 2 ∷ []) $ freed ! $ by ! (ends_at t.i word_fits
-        (first_found (isHeldAs n) _ _ t.so freeEntry (inside h was less) (e ∙ sym (by_name t)) (is_true _ on))))
+        (first_found (is_held_as n) _ _ t.so free_entry (inside h was less) (e ∙ sym (by_name t)) (is_true _ on))))
         (λ off.
         let next_fits : t.i + 1 < 2 ^ 64 = omega arith in
         assigns_last ! (bin ! (value ! 1 refl refl) (lit ! tt) (record { fits = next_fits })) (from ! (stop !))
@@ -155,11 +155,11 @@ module _ {M : Type 1} {𝓤 : Ura M} (𝓛 : Logic 𝓤) (at_mem : Memory → SP
         again ! Nearer At t (record {
           i = t.i + 1;
           upto = omega arith;
-          so = first-passed (isHeldAs n) _ _ t.so freeEntry (inside h was less) (e ∙ sym (by_name t)) (is_false _ off);
+          so = first_passed (is_held_as n) _ _ t.so free_entry (inside h was less) (e ∙ sym (by_name t)) (is_false _ off);
         }) (omega arith))))
       where
-        by_name : (t : Turn h n) → isHeldAs n (at_place h t.i) ≡ isNamed n (at_place h t.i)
-        by_name t = held-by-name n held (at_place h t.i)
+        by_name : (t : Turn h n) → is_held_as n (at_place h t.i) ≡ is_named n (at_place h t.i)
+        by_name t = held_by_name n held (at_place h t.i)
 
     -- the turn that leaves the loop, and the rest of the body
     leaves : (t : Turn h n) → places ≤ t.i → Sq 𝓛 (At t) (runs 𝓣.C 𝓣.Λ En code.Mir.turn-1 (any_q (Turned t)))
@@ -169,12 +169,12 @@ module _ {M : Type 1} {𝓤 : Ura M} (𝓛 : Logic 𝓤) (at_mem : Memory → SP
         rewrite ! 1 (λ (z : Bool). locals 𝓤 En (set (had t.i) 6 (some (vbool z)))) (le-ltb _ _ over) refl $
         leaves_loop ! (value ! 1 refl refl) $ exec ! 𝓣.C 𝓣.Λ En code.Mir.t-5 (at_ret En Ends) $
         sets ! 1 refl tt (of_opd ! (lit ! tt)) (tt, record { fits = lit< tt }) $
-        move ! (0 ∷ 2 ∷ []) $ look-shuts h b o ! tt s $
+        move ! (0 ∷ 2 ∷ []) $ look_shuts h b o ! tt s $
         -- [the token; the locals; the loan; res]
-        returns ! (look_in ! 1 (cell ! 0 refl)) $ move ! (1 ∷ 3 ∷ 2 ∷ []) $ freed ! $ by ! (ends_at noPlace (lit< tt) (last t over))
+        returns ! (look_in ! 1 (cell ! 0 refl)) $ move ! (1 ∷ 3 ∷ 2 ∷ []) $ freed ! $ by ! (ends_at no_place (lit< tt) (last t over))
       where
-        last : (t : Turn h n) → places ≤ t.i → Says κ h named noPlace
-        last t over = (let e = first_ended (isHeldAs n) _ _ t.so (past h was over) in omega (arith, t.upto))
+        last : (t : Turn h n) → places ≤ t.i → Says κ h named no_place
+        last t over = (let e = first_ended (is_held_as n) _ _ t.so (past h was over) in omega (arith, t.upto))
 
     abbrev start : Turn h n
     start = record { i = 0; upto = omega arith; so = omega arith }
@@ -188,18 +188,18 @@ module _ {M : Type 1} {𝓤 : Ura M} (𝓛 : Logic 𝓤) (at_mem : Memory → SP
       (WpFn 𝓤 H 𝓣.C 𝓣.Λ code.function (vptr b o ∷ machines Beside κ named) Ends)
   walk =
       qed 𝓛 (‵ (fres γ (lent h)) ∷ ‵ (loan κ h b o) ∷ ‵ (flft κ q) ∷ raw (emp 𝓤) ∷ []) ∵
-      enters ! 𝓣.C 𝓣.Λ code.function (vptr b o ∷ nameVal n ∷ []) _ (λ l₀ l₁ l₂ l₃ l₄ l₅ l₆ l₇ l₈ l₉ l₁₀ l₁₁. params1 ! $
-      pass1 ! (keeps ! 0 1 refl tt (tt, tt)) $ pass1 ! (keeps ! 0 2 refl tt (typed-name 𝓛 n are.0)) $ pass0 ! $
-      move ! (2 ∷ 3 ∷ []) $ look-opens h b o ! tt (λ s vs was. keep ! (0 ∷ 3 ∷ 1 ∷ 2 ∷ 4 ∷ []) $
+      enters ! 𝓣.C 𝓣.Λ code.function (vptr b o ∷ name_val n ∷ []) _ (λ l₀ l₁ l₂ l₃ l₄ l₅ l₆ l₇ l₈ l₉ l₁₀ l₁₁. params1 ! $
+      pass1 ! (keeps ! 0 1 refl tt (tt, tt)) $ pass1 ! (keeps ! 0 2 refl tt (typed_name 𝓛 n are.0)) $ pass0 ! $
+      move ! (2 ∷ 3 ∷ []) $ look_opens h b o ! tt (λ s vs was. keep ! (0 ∷ 3 ∷ 1 ∷ 2 ∷ 4 ∷ []) $
       -- the context of a turn
-      asks-nobody at_mem run ! (fm_of 𝓤 H 𝓛.laws 𝓣) known-nobody n are.0 (and_then ! (value ! 2 refl refl) (no_more !)) (λ r e.
+      asks_nobody at_mem run ! (fm_of 𝓤 H 𝓛.laws 𝓣) known-nobody n are.0 (and_then ! (value ! 2 refl refl) (no_more !)) (λ r e.
       receives ! 1 refl tt (tt, tt) $
       tests ! (value ! 1 refl refl)
       (λ on.
-      sets ! 1 refl tt (of_opd ! (lit ! tt)) (tt, record { fits = lit< tt }) $ move ! (0 ∷ 2 ∷ []) $ look-shuts h b o ! tt s $
+      sets ! 1 refl tt (of_opd ! (lit ! tt)) (tt, record { fits = lit< tt }) $ move ! (0 ∷ 2 ∷ []) $ look_shuts h b o ! tt s $
       -- [the token; the locals; the loan; res]
       returns_within ! Ends refl (look_in ! 1 (cell ! 0 refl)) $ move ! (1 ∷ 3 ∷ 2 ∷ []) $ freed ! $
-      by ! (ends_at noPlace (lit< tt) (nobody h was n (sym e ∙ is_true r on))))
+      by ! (ends_at no_place (lit< tt) (nobody h was n (sym e ∙ is_true r on))))
       (λ off.
       sets ! 1 refl tt (of_opd ! (lit ! tt)) (tt, record { fits = lit< tt }) $ move ! (1 ∷ []) $ forgets ! (5 ∷ []) $ move ! (1 ∷ []) $
       from_start (sym e ∙ is_false r off) s was l₀ l₁ l₂ l₃ l₄ l₅ l₆ l₇ l₈ l₉ l₁₀ l₁₁))))
@@ -210,7 +210,7 @@ place-in-spec 𝓤 𝓛 𝓜 𝓡 =
     let 𝓣 = tables_of 𝓤 𝓛.H 𝓜 (tables 𝓤 𝓛.H 𝓜 𝓡 code.env) in
     entered 𝓤 𝓛.H (triple_of 𝓛 lent'.signature (lent'.spec 𝓛 𝓜.mem 𝓡.run))
     (tables 𝓤 𝓛.H 𝓜 𝓡 code.env).C (tables 𝓤 𝓛.H 𝓜 𝓡 code.env).Λ #table-places·place-in code.function (code.unfolded 𝓤 𝓛.H 𝓜 𝓡)
-    (look-meets 𝓤 Beside usize (λ κ t n. emp 𝓤) Says 𝓛 𝓣 code.function (walk 𝓛 𝓜.mem 𝓡.run 𝓣
+    (look_meets 𝓤 Beside usize (λ κ t n. emp 𝓤) Says 𝓛 𝓣 code.function (walk 𝓛 𝓜.mem 𝓡.run 𝓣
     (cited 𝓤 𝓛.H (Nobody 𝓛 𝓜.mem 𝓡.run) 𝓜 𝓡 code.env #spec-model·is-nobody nobody-def.routine code.calls-spec-model::is-nobody
     (nobody-thm.met 𝓤 𝓛 𝓜 𝓡))
     (cited 𝓤 𝓛.H (Same 𝓛 𝓜.mem 𝓡.run) 𝓜 𝓡 code.env #spec-model·same same-def.routine code.calls-spec-model::same

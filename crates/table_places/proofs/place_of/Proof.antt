@@ -5,18 +5,18 @@ use Prim.Native.Nat.{◌+◌, ◌-◌, ◌≤◌}
 use native.Mathlib.Omega.{arith}
 use lib.ListN.{drop, get_or}
 use borrow.Author.Rules.{rules}
-use Rattle.base_lists.specs.First.{first_of, first_found, first-passed, first_ended}
-use Rattle.spec_model.specs.Entries.{freeEntry}
+use Rattle.base_lists.specs.First.{first_of, first_found, first_passed, first_ended}
+use Rattle.spec_model.specs.Entries.{free_entry}
 use Rattle.spec_model.specs.Tables.{places}
 use Rattle.table_places.proofs.Known.{inside, past}
-use Rattle.table_places.specs.Search.{isHeldAs, held-by-name}
+use Rattle.table_places.specs.Search.{is_held_as, held_by_name}
 use Rattle.table_places.proofs.Nobody.{nobody}
 use Rattle.table_places.proofs.place_of.Statement.{statement}
 use Rattle.table_places.proofs.place_of.Tie as tie
 
 abbrev invariant-loop : tie.invariant-loop
 invariant-loop name t place₀ place =
-    (place ≤ places) × (place + first_of (isHeldAs name) (drop place t.entries) ≡ first_of (isHeldAs name) t.entries)
+    (place ≤ places) × (place + first_of (is_held_as name) (drop place t.entries) ≡ first_of (is_held_as name) t.entries)
 
 abbrev decreases-loop : tie.decreases-loop
 decreases-loop name t place₀ place = places - place
@@ -47,12 +47,12 @@ abbrev start : tie.At-loop invariant-loop decreases-loop → tie.Start invariant
 start l = l.before.before.before
 
 by_name : (c : tie.After-same invariant-loop decreases-loop) → (let l = c.before.before.before in let n = (start l).args.name in
-    c.same.result ≡ isHeldAs n (get_or (start l).args.t1.entries l.loop.place freeEntry))
+    c.same.result ≡ is_held_as n (get_or (start l).args.t1.entries l.loop.place free_entry))
 by_name c =
     let l = c.before.before.before in
     let e = l.before in
-    c.same.ensures ∙ sym (held-by-name (start l).args.name (sym e.before.is-nobody.ensures ∙ e.if1.false)
-    (get_or (start l).args.t1.entries l.loop.place freeEntry))
+    c.same.ensures ∙ sym (held_by_name (start l).args.name (sym e.before.is-nobody.ensures ∙ e.if1.false)
+    (get_or (start l).args.t1.entries l.loop.place free_entry))
 
 returns-2 : tie.Need-returns-2 invariant-loop decreases-loop
 returns-2 c =
@@ -60,7 +60,7 @@ returns-2 c =
     let l = w.before in
     let s = start l in
     let h = inside s.args.t1 s.good.0 w.loop-test.true in
-    first_found (isHeldAs s.args.name) _ _ l.loop.invariant.1 freeEntry h (by_name c.before) c.if2.true
+    first_found (is_held_as s.args.name) _ _ l.loop.invariant.1 free_entry h (by_name c.before) c.if2.true
 
 add-place : tie.Need-overflow-add-place invariant-loop decreases-loop
 add-place c = search rules
@@ -74,14 +74,14 @@ loop-again c =
     let l = w.before in
     let s = start l in
     let h = inside s.args.t1 s.good.0 w.loop-test.true in
-    (omega arith, first-passed (isHeldAs s.args.name) _ _ l.loop.invariant.1 freeEntry h (by_name c.before) c.if2.false)
+    (omega arith, first_passed (is_held_as s.args.name) _ _ l.loop.invariant.1 free_entry h (by_name c.before) c.if2.false)
 
 returns-3 : tie.Need-returns-3 invariant-loop decreases-loop
 returns-3 c =
     let s = start c.before in
     let i = c.before.loop.invariant.0 in
     let h = c.loop-test.false in
-    let e = first_ended (isHeldAs s.args.name) _ _ c.before.loop.invariant.1 (past s.args.t1 s.good.0 h) in
+    let e = first_ended (is_held_as s.args.name) _ _ c.before.loop.invariant.1 (past s.args.t1 s.good.0 h) in
     omega arith
 
 pub place-of-spec : {M : Type 1} → statement M

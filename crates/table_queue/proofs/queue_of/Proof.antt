@@ -5,7 +5,7 @@ use Prim.Native.Nat.{◌-◌}
 use native.Mathlib.Omega.{arith}
 use borrow.Author.Rules.{rules}
 use Rattle.spec_model.specs.Tables.{places}
-use Rattle.table_queue.proofs.Making.{Making, queue, making-none, load-small, making-more, making-same, making-all}
+use Rattle.table_queue.proofs.Making.{Making, queue, making_none, load_small, making_more, making_same, making_all}
 use Rattle.table_queue.proofs.queue_of.Statement.{statement}
 use Rattle.table_queue.proofs.queue_of.Tie as tie
 
@@ -17,7 +17,7 @@ abbrev decreases-loop : tie.decreases-loop
 decreases-loop t used₀ load₀ ranks₀ owed₀ limits₀ jobs₀ i₀ used load ranks owed limits jobs i = places - i
 
 loop-holds : tie.Need-loop-init invariant-loop decreases-loop
-loop-holds c = making-none c.args.t1 c.well-formed.0 c.requires
+loop-holds c = making_none c.args.t1 c.well-formed.0 c.requires
 
 mul-e : tie.Need-overflow-mul-e invariant-loop decreases-loop
 mul-e c = search rules
@@ -76,7 +76,7 @@ add-load c =
     omega (
       arith,
       c.load_of.ensures,
-      load-small s.args.t1 s.well-formed.0 s.requires m t.loop-test.true,
+      load_small s.args.t1 s.well-formed.0 s.requires m t.loop-test.true,
       m.within,
       m.small,
     )
@@ -99,15 +99,15 @@ loop-again c =
     let f = ap not (sym c.before.is-nobody.ensures) in
     elim c.if1.branch [
       | inl w ↦ rw (w.6, w.7, w.8, w.9, w.10, w.11)
-          (making-more t s.well-formed.0 s.requires l.loop.invariant h (f ∙ w.0.taken) w.5.ensures w.1.ensures w.2.ensures w.3.ensures
+          (making_more t s.well-formed.0 s.requires l.loop.invariant h (f ∙ w.0.taken) w.5.ensures w.1.ensures w.2.ensures w.3.ensures
           w.4.ensures)
-      | inr w ↦ rw (w.1, w.2, w.3, w.4, w.5, w.6) (making-same t s.well-formed.0 s.requires l.loop.invariant h (f ∙ w.0.left))
+      | inr w ↦ rw (w.1, w.2, w.3, w.4, w.5, w.6) (making_same t s.well-formed.0 s.requires l.loop.invariant h (f ∙ w.0.left))
     ]
 
 returns : tie.Need-returns invariant-loop decreases-loop
 returns c =
     let s = c.before.before in
-    making-all s.args.t1 s.well-formed.0 s.requires c.before.loop.invariant c.loop-test.false
+    making_all s.args.t1 s.well-formed.0 s.requires c.before.loop.invariant c.loop-test.false
 
 pub queue-of-spec : {M : Type 1} → statement M
 queue-of-spec =

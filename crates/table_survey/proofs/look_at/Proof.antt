@@ -3,7 +3,7 @@ use mathlib.Core.Bool.{not, ◌||◌}
 use Prim.Native.Nat.{◌+◌}
 use native.Mathlib.Omega.{arith}
 use borrow.Author.Rules.{rules}
-use Rattle.table_survey.specs.Passes.{with-free, with-held}
+use Rattle.table_survey.specs.Passes.{with_free, with_held}
 use Rattle.table_survey.proofs.look_at.Statement.{statement}
 use Rattle.table_survey.proofs.look_at.Tie as tie
 
@@ -15,7 +15,7 @@ returns c =
     let a = c.before.before.args in
     let p = c.before.before.requires in
     let most = p.0.1 in
-    (with-free _ _ _ a.s (ap not (sym c.before.is-nobody.ensures ∙ c.if1.true)) p.1.1, omega arith)
+    (with_free _ _ _ a.s (ap not (sym c.before.is-nobody.ensures ∙ c.if1.true)) p.1.1, omega arith)
 
 same-requires : tie.Need-same-requires
 same-requires c κs = search rules
@@ -47,7 +47,7 @@ returns-2 c =
     let load = p.1.0 in
     let need = n.need-of.ensures in
     let small = need.1 in (
-      with-held _ _ _ s.args.s (ap not (sym k.before.before.is-nobody.ensures ∙ k.before.if1.false))
+      with_held _ _ _ s.args.s (ap not (sym k.before.before.is-nobody.ensures ∙ k.before.if1.false))
           (o.or_else.ensures ∙ ap (λ b. s.args.s.taken || b) k.same.ensures) f.free-after.ensures
           (ap (λ m. s.args.s.needed + m) need.0),
       omega arith,

@@ -3,16 +3,16 @@ use mathlib.Core.Bool.{true}
 use Prim.Native.Nat.{◌-◌, ◌≤◌}
 use native.Mathlib.Omega.{arith}
 use borrow.Author.Rules.{rules}
-use Rattle.base_lists.specs.All.{all-at}
+use Rattle.base_lists.specs.All.{all_at}
 use Rattle.spec_model.specs.Tables.{places}
 use Rattle.spec_rules.specs.Share.{load_of}
-use Rattle.law_model.specs.Frames.{mostSlots}
-use Rattle.law_steps.specs.Closed.{load-most}
+use Rattle.law_model.specs.Frames.{most_slots}
+use Rattle.law_steps.specs.Closed.{load_most}
 use Rattle.table_places.proofs.Known.{inside, past}
-use Rattle.table_queue.specs.Queues.{free-place}
-use Rattle.ahead_even.specs.Need.{evenNeed}
-use Rattle.table_survey.specs.Free.{isFree}
-use Rattle.table_survey.specs.Passes.{Passed, passed_none, passed-more, passed-all, free-needs}
+use Rattle.table_queue.specs.Queues.{free_place}
+use Rattle.ahead_even.specs.Need.{even_need}
+use Rattle.table_survey.specs.Free.{is_free}
+use Rattle.table_survey.specs.Passes.{Passed, passed_none, passed_more, passed_all, free_needs}
 use Rattle.table_survey.proofs.survey_for.Statement.{statement}
 use Rattle.table_survey.proofs.survey_for.Tie as tie
 
@@ -40,8 +40,8 @@ look-at-requires c κs =
     let h = inside t s.well-formed.0 i in (
       (i, l.1.most),
       (
-        all-at (λ e. load_of e ≤ mostSlots) t.entries _ (load-most t s.requires) _ h,
-        all-at (λ e. isFree e ≡ true → evenNeed e ≡ 0) t.entries _ (free-needs t s.requires) _ h,
+        all_at (λ e. load_of e ≤ most_slots) t.entries _ (load_most t s.requires) _ h,
+        all_at (λ e. is_free e ≡ true → even_need e ≡ 0) t.entries _ (free_needs t s.requires) _ h,
       ),
     )
 
@@ -56,13 +56,13 @@ loop-again c =
     let s = c.before.before.before.before in
     let h = inside s.args.t1 s.well-formed.0 c.before.before.loop-test.true in
     let e = c.look_at.ensures in
-    (omega arith, passed-more _ h (free-place s.args.t1 s.requires _ _ h) c.before.before.before.loop.invariant.1 e.0 e.1)
+    (omega arith, passed_more _ h (free_place s.args.t1 s.requires _ _ h) c.before.before.before.loop.invariant.1 e.0 e.1)
 
 returns : tie.Need-returns invariant-loop decreases-loop
 returns c =
     let s = c.before.before in
     let v = c.before.loop.invariant in
-    passed-all s.args.t1 v.0 (past s.args.t1 s.well-formed.0 c.loop-test.false) v.1
+    passed_all s.args.t1 v.0 (past s.args.t1 s.well-formed.0 c.loop-test.false) v.1
 
 pub survey-for-spec : {M : Type 1} → statement M
 survey-for-spec =

@@ -5,15 +5,15 @@ use lib.Dec.{leb, eqb}
 use borrow.Author.Tests.{le-leb, lt-leb, not-true, not-false}
 use borrow.Author.Rules.{rules}
 use Rattle.spec_model.specs.Requests.{refusal}
-use Rattle.spec_model.specs.Tables.{mostHeld}
-use Rattle.law_steps.specs.Offers.{offerChecksBut}
+use Rattle.spec_model.specs.Tables.{most_held}
+use Rattle.law_steps.specs.Offers.{offer_checks_but}
 use Rattle.call_offer.specs.Offer.{but_last}
 use Rattle.call_offer.proofs.checks.first_refusal.Statement.{statement}
 use Rattle.call_offer.proofs.checks.first_refusal.Tie as tie
 
 -- what the code has to answer
 abbrev asked : tie.Start → ℕ
-asked s = (let a = s.args in refusal (offerChecksBut a.s.taken (leb mostHeld a.s.free) a.f a.q))
+asked s = (let a = s.args in refusal (offer_checks_but a.s.taken (leb most_held a.s.free) a.f a.q))
 
 returns : tie.Need-returns
 returns c = rw (but_last _ _ _ _, c.before.requires, c.if1.true)
@@ -37,7 +37,7 @@ returns-2 c =
 
 -- every field is in range too: the last question is whether a place is free
 passed : (c : tie.Else2) → (let s = c.before.before.before.before in
-    asked s ≡ cond (leb mostHeld s.args.s.free) 16 0)
+    asked s ≡ cond (leb most_held s.args.s.free) 16 0)
 passed c =
     let f = c.before.before.before in
     let fields = c.before.before.check-fields.ensures in

@@ -5,7 +5,7 @@ use lib.Dec.{eqb}
 use types.Run.{OneOf, miss}
 use denote.Enum.Declared.{tag_of}
 use borrow.Author.Rules.{rules}
-use Rattle.spec_model.specs.Answers.{offerNumber}
+use Rattle.spec_model.specs.Answers.{offer_number}
 use Rattle.spec_model.specs.declared.OfferAnswer.{OfferAnswer}
 use Rattle.call_offer.proofs.checks.is_accepted.Statement.{statement}
 use Rattle.spec_model.specs.declared.OfferAnswer.TheVariants.{Accepted, StreamOutside, StreamHeld, KindUnknown}
@@ -17,10 +17,10 @@ enum_told : tie.Need-enum-told
 enum_told c = search rules
 
 returns : tie.Need-returns
-returns c = ap (λ a. eqb (offerNumber a) 0) (sym c.enum_told.given.1)
+returns c = ap (λ a. eqb (offer_number a) 0) (sym c.enum_told.given.1)
 
 -- any other answer has a number of its own
-other : (a : OfferAnswer) → OneOf (1 ∷ 2 ∷ 3 ∷ 4 ∷ 5 ∷ 6 ∷ 7 ∷ 8 ∷ []) (tag_of T.the_type a) → false ≡ eqb (offerNumber a) 0
+other : (a : OfferAnswer) → OneOf (1 ∷ 2 ∷ 3 ∷ 4 ∷ 5 ∷ 6 ∷ 7 ∷ 8 ∷ []) (tag_of T.the_type a) → false ≡ eqb (offer_number a) 0
 other Accepted k = absurd (miss (1 ∷ 2 ∷ 3 ∷ 4 ∷ 5 ∷ 6 ∷ 7 ∷ 8 ∷ []) 0 tt k)
 other StreamOutside k = refl
 other StreamHeld k = refl

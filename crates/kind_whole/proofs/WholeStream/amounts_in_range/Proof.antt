@@ -1,5 +1,5 @@
 use native.Mathlib.Omega.{arith}
-use Rattle.spec_model.proofs.Products.{product-fits}
+use Rattle.spec_model.proofs.Products.{product_fits}
 use borrow.Author.Rules.{rules}
 use Rattle.kind_whole.proofs.WholeStream.amounts_in_range.Statement.{statement}
 use Rattle.kind_whole.proofs.WholeStream.amounts_in_range.Tie as tie
@@ -13,7 +13,7 @@ cast-slots c = search rules
 mul-amounts-in-order : tie.Need-overflow-mul-amounts-in-order
 mul-amounts-in-order c =
     let a = c.before.before.args in
-    record { fits = product-fits a.self.period.0 a.interval.0 (omega arith) (omega arith) }
+    record { fits = product_fits a.self.period.0 a.interval.0 (omega arith) (omega arith) }
 
 amounts-in-order-requires : tie.Need-amounts-in-order-requires
 amounts-in-order-requires c κs = search rules
