@@ -180,6 +180,19 @@ fn numbers() {
     ] {
         assert_eq!(read_number(text.as_bytes()), value, "{text:?}");
     }
+    let mut random = Random::new(401);
+    let mut values = vec![0, u32::MAX];
+    for power in 0..10 {
+        let ten = 10u32.pow(power);
+        values.extend([ten - 1, ten, ten + 1, 9 * (ten / 10)]);
+    }
+    values.extend((0..20_000).map(|_| (random.bits() >> random.between(32, 63)) as u32));
+    for value in values {
+        let mut text = Vec::new();
+        push_number(&mut text, value);
+        assert_eq!(text, value.to_string().into_bytes());
+        assert_eq!(read_number(&text), Some(value));
+    }
 }
 
 /// The digits of a number, taken from behind what a line already has.

@@ -1,5 +1,5 @@
 -- A fact of every element of a list, under maps, filters, sorts and joins. Assumes nothing.
-use Rattle.std.specs.Prelude.{◌≡◌, refl, Bool, true, false, cond, ◌||◌, List, [], ◌∷◌, ◌++◌, map, ℕ, zero, suc, ◌≤◌, ◌<◌, length, get_or, take, set, replicate}
+use Rattle.std.specs.Prelude.{◌≡◌, refl, Bool, true, false, cond, ◌||◌, List, [], ◌∷◌, ◌++◌, map, ℕ, zero, suc, ◌≤◌, ◌<◌, length, get_or, take, replicate}
 use Rattle.std.proofs.Common.{ap₂, zero-le, suc-le-suc, arith}
 use Rattle.spec_lists.specs.All.{All, stop, and}
 use Rattle.spec_lists.specs.Lists.{cons_if, keep, most_of, any_of, insert, sort, concat_map}
@@ -55,6 +55,10 @@ module _ {A : Type 0} where
       go true q h w = and (λ z. head h) (w (tail h))
       go false q h w = and (λ z. absurd (clash (p x) z q)) (w h)
 
+  pub keep_all : (p : A → Bool) {xs : List A} → All (λ x. p x ≡ true) xs → keep p xs ≡ xs
+  keep_all p stop = refl
+  keep_all p (and {x = y} {xs = ys} q h) = ap₂ (λ b l. cons_if b y l) q (keep_all p h)
+
   -- ---- a sort
   all_cond : {P : A → Type 0} (b : Bool) {xs ys : List A} → All P xs → All P ys → All P (cond b xs ys)
   all_cond true h k = h
@@ -100,11 +104,6 @@ module _ {A : Type 0} where
   all_take zero h = stop
   all_take (suc n) stop = stop
   all_take (suc n) (and p h) = and p (all_take n h)
-
-  pub all_set : {P : A → Type 0} {xs : List A} (i : ℕ) (y : A) → P y → All P xs → All P (set xs i y)
-  all_set i y p stop = stop
-  all_set zero y p (and q h) = and p h
-  all_set (suc i) y p (and q h) = and q (all_set i y p h)
 
   pub all_replicate : (P : A → Type 0) (n : ℕ) (x : A) → P x → All P (replicate n x)
   all_replicate P zero x p = stop

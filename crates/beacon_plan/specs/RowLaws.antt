@@ -5,7 +5,7 @@ use Rattle.std.proofs.Common.{sym, ap, subst, ◌∙◌, zero-le, le_refl, arith
 use Rattle.spec_lists.specs.Lists.{keep, sum_of}
 use Rattle.base_lists.specs.Tests.{one_if_most, one_if_false}
 use Rattle.spec_lists.specs.All.{All, stop, and}
-use Rattle.base_lists.specs.All.{head, tail, all_at, all_append, all_set}
+use Rattle.base_lists.specs.All.{head, tail, all_at, all_append}
 use Rattle.base_lists.specs.Sums.{sum_append, sum_keep_le}
 use Rattle.spec_rules.specs.Slots.{Job, job_at, jobs_from, slots_from, runs_from}
 use Rattle.law_slots.specs.Count.{to_come, ahead, few_runs_lem, come_later}
@@ -48,6 +48,11 @@ pub in_row : (ns : List ℕ) (j : ℕ) → 1 ≤ get_or ns j 0 → j < length ns
 in_row [] j h = absurd (omega arith)
 in_row (n ∷ ns) zero h = omega arith
 in_row (n ∷ ns) (suc j) h = omega (arith, in_row ns j h)
+
+all_set : {A : Type 0} {P : A → Type 0} {xs : List A} (i : ℕ) (y : A) → P y → All P xs → All P (set xs i y)
+all_set i y p stop = stop
+all_set zero y p (and q h) = and p h
+all_set (suc i) y p (and q h) = and q (all_set i y p h)
 
 pub wide_with : (nss : List (List ℕ)) (i j v : ℕ) → i < length nss → Wide nss → Wide (with_need nss i j v)
 wide_with nss i j v h w =

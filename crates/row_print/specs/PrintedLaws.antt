@@ -5,7 +5,7 @@ use Rattle.std.proofs.Math.ListN.{length-append}
 use Rattle.spec_lists.specs.Lists.{concat_map}
 use Rattle.spec_model.specs.declared.Name.{Name}
 use Rattle.spec_rules.specs.Slots.{Run}
-use Rattle.row_write.specs.Digits.{decimal_most}
+use Rattle.row_write.specs.Powers.{decimal_most}
 pub use Rattle.row_write.specs.BytesLaws.{Wrote, wrote, contract, wrote_then, written_none}
 use Rattle.spec_shelf.specs.Bytes.{written}
 use Rattle.spec_shelf.specs.Printed.{name_field, header_row, plain_row, stream_row, slot_row_of}

@@ -1,15 +1,17 @@
--- Laws of bytes in lent memory: some written after others, and byte by byte. Assumes nothing.
-use Rattle.std.specs.Prelude.{◌≡◌, refl, false, List, [], ◌∷◌, ◌++◌, ℕ, suc, ◌+◌, ◌≤◌, ◌<◌, leb, take, set, get_or}
-use Rattle.std.proofs.Common.{sym, subst, ◌∙◌, ⊎_elim, append_assoc, append-nil, take-append-drop, drop_of_length-le, length-take-le, take_all, take_at, leb-true, leb-false}
+-- Laws of bytes in lent memory: some written after others, byte by byte, and a number digit by digit. Assumes nothing.
+use Rattle.std.specs.Prelude.{◌≡◌, refl, Bool, false, List, [], ◌∷◌, ◌++◌, map, ℕ, suc, ◌+◌, ◌≤◌, ◌<◌, leb, take, set, get_or}
+use Rattle.std.proofs.Common.{sym, subst, ◌∙◌, ⊎_elim, append_assoc, append-nil, take-append-drop, drop_of_length-le, length-take-le, take_all, take_at, le-leb, leb-true, leb-false}
 use Rattle.std.proofs.Math.Path.{ap, ap₂}
 use native.Mathlib.Omega.{arith}
 use Rattle.std.proofs.Math.ListN.{length, drop, length-append}
 use Rattle.std.proofs.Math.Seq.{drop-append-add, drop-drop}
 use Rattle.std.proofs.lemmas.List.{set_split}
+use Rattle.std.proofs.lemmas.Bool.{lt-leb}
+use Rattle.spec_lists.specs.Lists.{cons_if, keep}
 use Rattle.base_lists.specs.Tests.{either}
 use Rattle.base_lists.specs.Loops.{left_next}
-use Rattle.spec_shelf.specs.Bytes.{decimal, written, number_most}
-use Rattle.row_write.specs.Digits.{decimal_most}
+use Rattle.spec_shelf.specs.Bytes.{tens, digit_at, decimal, written, number_most}
+use Rattle.row_write.specs.Powers.{decimal_most}
 
 -- ---- bytes in lent memory
 module _ (out : List ℕ) (at : ℕ) (a : List ℕ) where
@@ -122,3 +124,24 @@ module _ (out : List ℕ) (at : ℕ) (bytes : List ℕ) where
       let e : at + i + 1 ≡ at + (i + 1) = omega arith in
       subst (λ n. Wrote (set out (at + i) (get_or bytes i 0)) n (drop (i + 1) bytes) last end) e
       (wrote_rest {a = get_or bytes i 0 ∷ []} (rw (left_next bytes i 0 l) at w) (wrote_byte out (at + i) (get_or bytes i 0) h))
+
+-- ---- the loop over the table: the digits are left at the powers from i on that are at most bound
+abbrev pub digits_left : (n bound i : ℕ) → List ℕ
+digits_left n bound i = map (digit_at n) (keep (λ p. leb p bound) (drop i tens))
+
+module _ (n bound i : ℕ) (h : i < length tens) where
+  digits_left_lem : {b : Bool} → leb (get_or tens i 0) bound ≡ b
+      → digits_left n bound i ≡ map (digit_at n) (cons_if b (get_or tens i 0) (keep (λ p. leb p bound) (drop (i + 1) tens)))
+  digits_left_lem e =
+      ap (λ ps. map (digit_at n) (keep (λ p. leb p bound) ps)) (left_next tens i 0 h)
+      ∙ ap (λ b. map (digit_at n) (cons_if b (get_or tens i 0) (keep (λ p. leb p bound) (drop (i + 1) tens)))) e
+
+  pub digit_next : {out last : List ℕ} {at end : ℕ} → at < length out → get_or tens i 0 ≤ bound → Wrote out at (digits_left n bound i) last end
+      → Wrote (set out at (digit_at n (get_or tens i 0))) (at + 1) (digits_left n bound (i + 1)) last end
+  digit_next {out} {at = at} k l w =
+      let p = get_or tens i 0 in
+      wrote_rest {a = digit_at n p ∷ []} (rw (digits_left_lem (le-leb p bound l)) at w) (wrote_byte out at (digit_at n p) k)
+
+  pub digit_none : {out last : List ℕ} {at end : ℕ} → bound < get_or tens i 0 → Wrote out at (digits_left n bound i) last end
+      → Wrote out at (digits_left n bound (i + 1)) last end
+  digit_none l w = rw (digits_left_lem (lt-leb (get_or tens i 0) bound l)) at w

@@ -1,4 +1,3 @@
-pub mod Digits
-pub mod Groups
+pub mod Powers
 pub mod BytesLaws
 pub mod ReadBack

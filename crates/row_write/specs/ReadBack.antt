@@ -1,119 +1,70 @@
--- A printed number that is read again is the number, and it has no leading zero; of no other bytes is that so. Assumes nothing.
-use Rattle.std.specs.Prelude.{◌≡◌, refl, ◌⊎◌, true, false, ◌&&◌, List, [], ◌∷◌, ◌++◌, ℕ, zero, suc, ◌+◌, ◌*◌, ◌-◌, ◌/◌, ◌%◌, ◌≤◌, ◌<◌, eqb, leb, length, get_or}
-use Rattle.std.proofs.Common.{sym, ap, ap₂, ◌∙◌, inl, inr, append_assoc, append-nil, arith, length-append, le-leb, leb-true, eqb-true}
-use Rattle.std.proofs.Math.Arith.{lt_of_le-ne}
-use Rattle.std.proofs.Math.ListN.{get_or-append}
-use Rattle.std.proofs.lemmas.Bool.{eqb-false}
-use Rattle.spec_lists.specs.Lists.{within}
-use Rattle.base_lists.specs.Tests.{either, clash, and_both, both_and, within_both, both_within}
+-- A printed number that is read again is the number, and it has no leading zero. Assumes nothing.
+use Rattle.std.specs.Prelude.{◌≡◌, true, List, [], ◌∷◌, map, length, get_or}
+use Rattle.std.proofs.Math.Path.{refl, ap}
+use Rattle.std.proofs.Common.{◌∙◌, mul-one, mod-eq_of_lt, mul_assoc, mul_comm, add-mul, le-div_iff_mul-le, div-lt_iff_lt-mul, arith, le-leb}
+use Prim.Native.Nat.{ℕ, zero, suc, ◌+◌, ◌*◌, ◌-◌, ◌/◌, ◌%◌, ◌^◌, ◌≤◌, ◌<◌}
+use Rattle.std.proofs.Math.Nat.{pow-succ', mod-one}
+use Rattle.std.proofs.Math.Arith.{mod-mul}
+use Rattle.base_lists.specs.Tests.{both_and, both_within}
 use Rattle.spec_text.specs.Fields.{all_digits, spelt, value_of, is_number}
-use Rattle.spec_shelf.specs.Bytes.{digit, decimal}
-use Rattle.row_write.specs.Digits.{decimal_most, one_digit, more_digits, of_digits}
+use Rattle.spec_shelf.specs.Bytes.{digit_at, decimal}
+use Rattle.row_write.specs.Powers.{powers, power_positive, top_power, digits, decimal_least, decimal_most}
 
--- ---- one digit more, at the end
-spelt_last : (v : ℕ) (bs : List ℕ) (b : ℕ) → spelt v (bs ++ b ∷ []) ≡ 10 * spelt v bs + (b - 48)
+-- the digits at the k lowest powers go on to spell the number's last k digits
+spelt_powers : (n k v : ℕ) → spelt v (map (digit_at n) (powers k)) ≡ v * 10 ^ k + n % 10 ^ k
 unfolding spelt
-spelt_last v [] b = refl
-spelt_last v (a ∷ bs) b = spelt_last (10 * v + (a - 48)) bs b
+spelt_powers n zero v = omega (arith, mul-one v, mod-one n)
+spelt_powers n (suc k) v =
+    let d = n / 10 ^ k % 10 in
+    omega (
+      arith,
+      spelt_powers n k (10 * v + (48 + d - 48)),
+      add-mul (10 * v) (48 + d - 48) (10 ^ k),
+      ap (λ x. x * 10 ^ k) (the_digit d),
+      ap (λ x. v * x) (pow-succ' 10 k),
+      mul_assoc v 10 (10 ^ k),
+      ap (λ x. x * 10 ^ k) (mul_comm 10 v),
+      ap (λ x. n % x) (pow-succ' 10 k),
+      mod-mul n {m = 10} {c = 10 ^ k} (omega arith) (power_positive k),
+    )
+  where
+    the_digit : (d : ℕ) → 48 + d - 48 ≡ d
+    the_digit d = omega arith
 
-all_last : (bs : List ℕ) (b : ℕ) → all_digits bs ≡ true → within 48 57 b ≡ true → all_digits (bs ++ b ∷ []) ≡ true
+all_digits_lem : (n : ℕ) (ps : List ℕ) → all_digits (map (digit_at n) ps) ≡ true
 unfolding all_digits
-all_last [] b h k = both_and _ _ k refl
-all_last (a ∷ bs) b h k =
-    let (p, q) = and_both (within 48 57 a) (all_digits bs) h in
-    both_and (within 48 57 a) (all_digits (bs ++ b ∷ [])) p (all_last bs b q k)
-
-a_digit : (d : ℕ) → d < 10 → within 48 57 (digit d) ≡ true
-a_digit d h = both_within 48 57 (digit d) (omega arith) (omega arith)
-
--- ---- what the digits of a number are: they read back, all of them are digits, and the first is 0 only of 0
-record Reads (n : ℕ) (bs : List ℕ) : Type 0 where
-  value : value_of bs ≡ n
-  digits : all_digits bs ≡ true
-  some : 1 ≤ length bs
-  first : 1 ≤ n → 49 ≤ get_or bs 0 0
-
-reads_one : (n : ℕ) → n < 10 → Reads n (digit n ∷ [])
-unfolding spelt all_digits
-reads_one n h = record { value = omega arith; digits = both_and _ _ (a_digit n h) refl; some = omega arith; first = λ l. omega arith }
-
-reads_more : (n : ℕ) (bs : List ℕ) → 10 ≤ n → Reads (n / 10) bs → Reads n (bs ++ digit (n % 10) ∷ [])
-reads_more n bs l r =
-    record {
-      value = omega (arith, spelt_last 0 bs (digit (n % 10)), r.value);
-      digits = all_last bs (digit (n % 10)) r.digits (a_digit (n % 10) (omega arith));
-      some = omega (arith, length-append bs (digit (n % 10) ∷ []));
-      first = λ k. rw (get_or-append bs (digit (n % 10) ∷ []) 0 0 r.some) (r.first (omega arith));
-    }
+all_digits_lem n [] = refl
+all_digits_lem n (p ∷ ps) = both_and _ _ (both_within 48 57 (digit_at n p) (omega arith) (omega arith)) (all_digits_lem n ps)
 
 module _ (n : ℕ) (h : n ≤ 4294967295) where
-  reads : Reads n (decimal n)
-  reads = of_digits Reads reads_one reads_more n h
+  below_top : n < 10 ^ suc (top_power n).top
+  below_top = omega (arith, (top_power n).most (omega arith))
 
   pub reads_back : value_of (decimal n) ≡ n
-  reads_back = reads.value
+  reads_back =
+      let k = suc (top_power n).top in
+      ap value_of (digits n) ∙ omega (arith, spelt_powers n k 0, mod-eq_of_lt below_top)
 
   pub is_number_lem : is_number (decimal n) ≡ true
   unfolding is_number
   is_number_lem =
-      both_and _ _ (both_within 1 10 (length (decimal n)) reads.some (decimal_most n))
-      (both_and _ _ reads.digits (le-leb (value_of (decimal n)) 4294967295 (omega (arith, reads_back))))
+      both_and _ _ (both_within 1 10 (length (decimal n)) (decimal_least n) (decimal_most n))
+      (both_and _ _ (ap all_digits (digits n) ∙ all_digits_lem n (powers (suc (top_power n).top)))
+      (le-leb (value_of (decimal n)) 4294967295 (omega (arith, reads_back))))
 
   -- no leading zero: the first digit is 0 only where it is the only one
+  first_digit : 1 ≤ n → 49 ≤ get_or (decimal n) 0 0
+  first_digit l =
+      let p = 10 ^ (top_power n).top in
+      let z = power_positive (top_power n).top in
+      let few : n / p < 10 = (div-lt_iff_lt-mul z).1 (omega (arith, below_top, pow-succ' 10 (top_power n).top)) in
+      let some : 1 ≤ n / p = (le-div_iff_mul-le z).1 (omega (arith, (top_power n).least)) in
+      rw (digits n) (omega arith)
+
   pub no_leading_zero : get_or (decimal n) 0 0 ≡ 48 → decimal n ≡ 48 ∷ []
-  no_leading_zero e = ap decimal (only_zero n (λ l. omega (arith, reads.first l))) ∙ one_digit 0 (omega arith)
+  unfolding decimal
+  no_leading_zero e = ap decimal (only_zero n (λ l. omega (arith, first_digit l)))
     where
       only_zero : (k : ℕ) → (1 ≤ k → ⊥) → k ≡ 0
       only_zero zero f = refl
       only_zero (suc k) f = absurd (f (omega arith))
-
--- ---- these three determine the bytes
-spelt_least : (v : ℕ) (bs : List ℕ) → v ≤ spelt v bs
-unfolding spelt
-spelt_least v [] = omega arith
-spelt_least v (b ∷ bs) = omega (arith, spelt_least (10 * v + (b - 48)) bs)
-
--- digits that go on to spell a number after v stand behind those of v
-digits_after : (v : ℕ) (bs : List ℕ) → 1 ≤ v → all_digits bs ≡ true → spelt v bs ≤ 4294967295 → decimal (spelt v bs) ≡ decimal v ++ bs
-unfolding spelt all_digits
-digits_after v [] l a h = sym (append-nil (decimal v))
-digits_after v (b ∷ bs) l a h =
-    let w = 10 * v + (b - 48) in
-    let (p, q) = and_both (within 48 57 b) (all_digits bs) a in
-    let (lo, hi) = within_both 48 57 b p in
-    let most : w ≤ 4294967295 = omega (arith, spelt_least w bs) in
-    let tenth : w / 10 ≡ v = omega arith in
-    let last : digit (w % 10) ≡ b = omega arith in
-    digits_after w bs (omega arith) q h
-    ∙ ap (λ ds. ds ++ bs) (more_digits w (omega arith) most ∙ ap₂ (λ m d. decimal m ++ d ∷ []) tenth last)
-    ∙ append_assoc (decimal v) (b ∷ []) bs
-
--- a number without a leading zero has the digits of what it says
-own_digits : (bs : List ℕ) → is_number bs ≡ true → (get_or bs 0 0 ≡ 48 → bs ≡ 48 ∷ []) → bs ≡ decimal (value_of bs)
-unfolding is_number all_digits spelt
-own_digits [] h z = absurd (clash false h refl)
-own_digits (b ∷ bs) h z = go (either (eqb b 48))
-  where
-    whole : (all_digits (b ∷ bs) ≡ true) × (leb (value_of (b ∷ bs)) 4294967295 ≡ true)
-    whole = and_both _ _ (and_both (within 1 10 (length (b ∷ bs))) (all_digits (b ∷ bs) && leb (value_of (b ∷ bs)) 4294967295) h).1
-
-    digits : (within 48 57 b ≡ true) × (all_digits bs ≡ true)
-    digits = and_both (within 48 57 b) (all_digits bs) whole.0
-
-    go : (eqb b 48 ≡ true) ⊎ (eqb b 48 ≡ false) → b ∷ bs ≡ decimal (value_of (b ∷ bs))
-    go (inl e) =
-        let only = z (eqb-true b 48 e) in
-        only ∙ sym (ap (λ cs. decimal (value_of cs)) only ∙ one_digit 0 (omega arith))
-    go (inr e) =
-        let v = 10 * 0 + (b - 48) in
-        let (lo, hi) = within_both 48 57 b digits.0 in
-        let above : 48 < b = lt_of_le-ne lo (λ q. eqb-false b 48 e (sym q)) in
-        let first : digit v ≡ b = omega arith in
-        sym
-        (digits_after v bs (omega arith) digits.1 (leb-true _ _ whole.1)
-        ∙ ap (λ ds. ds ++ bs) (one_digit v (omega arith) ∙ ap (λ d. d ∷ []) first))
-
--- whatever is a number, reads back to n and has no leading zero is what is printed of n: so the digits that came from a table of powers of
--- ten, of which the three had been proved, are these (docs/CHANGES.md, No. 2)
-pub determined : (n : ℕ) (bs : List ℕ) → is_number bs ≡ true → value_of bs ≡ n → (get_or bs 0 0 ≡ 48 → bs ≡ 48 ∷ []) → bs ≡ decimal n
-determined n bs h e z = own_digits bs h z ∙ ap decimal e

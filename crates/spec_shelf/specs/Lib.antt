@@ -2,6 +2,5 @@ pub mod Printed
 pub mod Meaning
 pub mod Room
 pub mod Bytes
-pub mod Decimals
 pub mod Commands
 pub mod Openings

@@ -1,71 +1,90 @@
--- `row_write::put_number` meets its contract. The invariant: to write the groups that are left gives what all digits give. The measure is
--- how many are left. Assumes nothing.
-use mathlib.Core.Path.{◌≡◌, refl}
-use Prim.Native.Nat.{◌+◌, ◌*◌, ◌-◌, ◌≤◌, ◌<◌}
+-- `row_write::put_number` meets its contract. The invariant: to write the digits that are left gives what all of them give.
+-- Assumes nothing.
+use mathlib.Core.Path.{◌≡◌, refl, ap, ◌∙◌}
+use mathlib.Core.Logic.{⊎_elim}
+use Prim.Native.Nat.{◌≤◌, ◌+◌, ◌-◌, max}
 use native.Mathlib.Omega.{arith}
-use lib.ListN.{length}
+use lib.ListN.{length, length-set, drop_of_length-le}
 use borrow.Author.Rules.{rules}
-use Rattle.spec_shelf.specs.Bytes.{written}
-use Rattle.base_lists.specs.All.{all_at}
-use Rattle.row_write.specs.Digits.{decimal_most}
-use Rattle.row_write.specs.Groups.{group_digits, group_next, grouped_length, grouped_few}
-use Rattle.row_write.specs.BytesLaws.{Wrote, wrote, contract, wrote_then, wrote_rest, wrote_all}
+use Rattle.spec_shelf.specs.Bytes.{tens, decimal, written}
+use Rattle.row_write.specs.Powers.{tens_positive, one_digit}
+use Rattle.row_write.specs.BytesLaws.{Wrote, digits_left, digit_next, digit_none, wrote_all, wrote_byte, contract}
 use Rattle.row_write.proofs.put_number.Statement.{statement}
 use Rattle.row_write.proofs.put_number.Tie as tie
 
 abbrev invariant-loop : tie.invariant-loop
-invariant-loop out₀ at n behind end₀ k₀ out end k =
-    ((k ≤ 3) × (length out ≡ length out₀) × (end + 3 * k ≤ length out))
-    × Wrote out end (group_digits k behind) (written out₀ end₀ (group_digits k₀ behind)) (end₀ + length (group_digits k₀ behind))
+invariant-loop out₀ at n end₀ i₀ out end i =
+    ((i ≤ 10) × (length out ≡ length out₀) × (end + (10 - i) ≤ length out))
+    × Wrote out end (digits_left n (max 1 n) i) (written out₀ at (decimal n)) (at + length (decimal n))
 
 abbrev decreases-loop : tie.decreases-loop
-decreases-loop out₀ at n behind end₀ k₀ out end k = k
+decreases-loop out₀ at n end₀ i₀ out end i = 10 - i
 
-put-front-requires : tie.Need-put-front-requires invariant-loop decreases-loop
-put-front-requires c κs = search rules
+add-out : tie.Need-overflow-add-out invariant-loop decreases-loop
+add-out c = search rules
+
+cast-out : tie.Need-overflow-cast-out invariant-loop decreases-loop
+cast-out c = search rules
+
+slice-write-out : tie.Need-slice-write-out invariant-loop decreases-loop
+slice-write-out c = search rules
+
+add-result : tie.Need-overflow-add-result invariant-loop decreases-loop
+add-result c = search rules
 
 same_length : tie.Need-same-length invariant-loop decreases-loop
 same_length c = search rules
 
 returns : tie.Need-returns invariant-loop decreases-loop
-returns c = c.before.before.put_front.ensures
-
-groups-of-requires : tie.Need-groups-of-requires invariant-loop decreases-loop
-groups-of-requires c κs = search rules
-
-put-front-requires-2 : tie.Need-put-front-requires-2 invariant-loop decreases-loop
-put-front-requires-2 c κs = search rules
+returns c =
+    let a = c.before.args in
+    contract (rw (one_digit a.n (omega arith)) (wrote_byte a.out.now a.at (48 + a.n) (omega arith)))
 
 loop-holds : tie.Need-loop-init invariant-loop decreases-loop
-loop-holds c =
-    let g = c.before.before.before.before.before.groups_of.ensures.1 in
-    let n = c.before.before.before.before.before.before.before.before.args.n in
-    ((grouped_few g, refl, omega (arith, grouped_length g, decimal_most n)), record { place = refl; memory = refl })
+unfolding decimal
+loop-holds c = ((omega arith, refl, omega arith), record { place = refl; memory = refl })
 
-sub-k : tie.Need-overflow-sub-k invariant-loop decreases-loop
-sub-k c = search rules
+mul-p : tie.Need-overflow-mul-p invariant-loop decreases-loop
+mul-p c = search rules
 
-mul-put-three : tie.Need-overflow-mul-put-three invariant-loop decreases-loop
-mul-put-three c = search rules
+array-read-p : tie.Need-array-read-p invariant-loop decreases-loop
+array-read-p c = search rules
 
-array-read-put-three : tie.Need-array-read-put-three invariant-loop decreases-loop
-array-read-put-three c = search rules
+div-out : tie.Need-nonzero-div-out invariant-loop decreases-loop
+div-out c = tens_positive c.before.before.loop.i (omega arith)
 
-put-three-requires : tie.Need-put-three-requires invariant-loop decreases-loop
-put-three-requires c κs =
-    let l = c.before.before in
-    let g = l.before.before.before.before.before.before.groups_of.ensures.1 in
-    (all_at (λ v. v < 1000) _ 0 g.below (l.loop.k - 1) (omega arith), omega arith)
+add-out-2 : tie.Need-overflow-add-out-2 invariant-loop decreases-loop
+add-out-2 c = search rules
+
+cast-out-2 : tie.Need-overflow-cast-out-2 invariant-loop decreases-loop
+cast-out-2 c = search rules
+
+slice-write-out-2 : tie.Need-slice-write-out-2 invariant-loop decreases-loop
+slice-write-out-2 c = search rules
+
+add-end : tie.Need-overflow-add-end invariant-loop decreases-loop
+add-end c = search rules
+
+add-i : tie.Need-overflow-add-i invariant-loop decreases-loop
+add-i c = search rules
 
 loop-less : tie.Need-loop-smaller invariant-loop decreases-loop
 loop-less c = search rules
 
 loop-again : tie.Need-loop-preserved invariant-loop decreases-loop
 loop-again c =
-    let w = c.before.before in
-    let l = w.before.before.before in
-    let left = rw (group_next l.loop.k _ (omega arith)) at l.loop.invariant.1 in
-    ((omega arith, omega arith, omega arith), wrote_rest left (wrote w.put_three.ensures))
+    let l = c.before.before in
+    let n = l.before.before.args.n in
+    let i = l.loop.i in
+    let left = l.loop.invariant.1 in
+    ⊎_elim
+    (λ w.
+    let k : length c.if2.out ≡ length l.loop.out = ap length w.1 ∙ length-set l.loop.out _ _ in
+    (omega arith, rw (w.1, w.2) (digit_next n (max 1 n) i (omega arith) (omega arith) (omega arith) left)))
+    (λ w.
+    let k : length c.if2.out ≡ length l.loop.out = ap length w.1 in
+    (omega arith, rw (w.1, w.2) (digit_none n (max 1 n) i (omega arith) (omega arith) left)))
+    c.if2.branch
 
 same-length-2 : tie.Need-same-length-2 invariant-loop decreases-loop
 same-length-2 c = search rules
@@ -73,11 +92,7 @@ same-length-2 c = search rules
 returns-2 : tie.Need-returns-2 invariant-loop decreases-loop
 returns-2 c =
     let l = c.before in
-    let f = l.before.before.before in
-    let g = f.before.before.before.groups_of.ensures.1 in
-    let none : l.loop.k ≡ 0 = omega arith in
-    let groups = wrote (wrote_all (rw none at l.loop.invariant.1)) in
-    contract (rw g.digits (wrote_then (wrote f.put-front2.ensures) groups))
+    wrote_all (rw (drop_of_length-le tens {i = l.loop.i} (omega arith)) at l.loop.invariant.1)
 
 pub put-number-spec : {M : Type 1} → statement M
 put-number-spec =
@@ -85,16 +100,21 @@ put-number-spec =
     (tie.spec
     invariant-loop
     decreases-loop
-    put-front-requires
+    add-out
+    cast-out
+    slice-write-out
+    add-result
     same_length
     returns
-    groups-of-requires
-    put-front-requires-2
     loop-holds
-    sub-k
-    mul-put-three
-    array-read-put-three
-    put-three-requires
+    mul-p
+    array-read-p
+    div-out
+    add-out-2
+    cast-out-2
+    slice-write-out-2
+    add-end
+    add-i
     loop-less
     loop-again
     same-length-2
