@@ -1,5 +1,7 @@
 // What an even share of every interval takes of one interval: kind 1 what its jobs need, a piece the same slots in each interval up to its
 // deadline. Where an interval has room for that, every entry is served in time, and no interval need be looked at.
+#![tactic(auto)]
+
 ghost use Rattle.std.specs.Prelude.{◌≡◌, ◌+◌, ◌≤◌, max};
 ghost use Rattle.base_numbers.specs.Upward.{upward};
 ghost use Rattle.spec_rules.specs.Share.{load_of};

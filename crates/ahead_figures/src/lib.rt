@@ -1,5 +1,7 @@
 // The figures of a table that looking ahead goes by, place by place. Times count intervals from where looking ahead begins, so that a place
 // keeps its figures while it is neither served nor at its end.
+#![tactic(auto)]
+
 ghost use Rattle.std.specs.Prelude.{◌≡◌, ◌≤◌, ◌<◌, replicate};
 ghost use Rattle.spec_model.specs.Entries.{free_entry};
 ghost use Rattle.spec_model.specs.Tables.{places};
@@ -18,7 +20,7 @@ pub const NEVER: Intervals = Intervals(4294967295);
 // A rank is a place in the order of step B, at the end of the period that runs. The end is that of the period, or of the life where there
 // is no period. The load is what each interval of the life takes, whoever is served. A period of kind 2 is followed by the next, which begins
 // with so many slots owed; a transfer begins once.
-#[derive(Drop)]
+#[derive(Clone, Copy)]
 pub struct Figures {
     pub rank: u64,
     pub owed: Slots,

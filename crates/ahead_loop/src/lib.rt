@@ -1,5 +1,7 @@
 // Looking ahead: steps A, B and F in turn until every life is used up. Document 01, "Looking ahead". The header test, which holds in all
 // intervals where it holds in the first, is made apart: crate header_test.
+#![tactic(auto)]
+
 ghost use Rattle.std.specs.Prelude.{◌≡◌, ◌+◌, ◌<◌, max};
 ghost use Rattle.spec_model.specs.Tables.{places, held_of, put_in};
 ghost use Rattle.spec_rules.specs.WellFormed.{Tidy};

@@ -1,4 +1,6 @@
 // The end that looking ahead goes to next, of a period or a life, and the load of each interval up to it, by a table's figures.
+#![tactic(auto)]
+
 ghost use Rattle.std.specs.Prelude.{◌≡◌, ◌≤◌, length};
 ghost use Rattle.spec_lists.specs.Lists.{sum_of};
 ghost use Rattle.base_lists.specs.Spare.{Spare};

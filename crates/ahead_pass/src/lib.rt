@@ -1,4 +1,6 @@
 // Past an end of periods and lives, by a table's figures.
+#![tactic(auto)]
+
 ghost use Rattle.std.specs.Prelude.{◌≡◌};
 ghost use Rattle.ahead_figures.specs.Columns.{columns};
 ghost use Rattle.ahead_pass.specs.Passed.{after_end, InRoom, Roomy, PassedEnds};

@@ -1,5 +1,7 @@
 // The service of looking ahead, by numbers: what the places are owed is served from a number of slots by rank, the lowest first, and leaves
 // the queue where its end comes. The loops stop after the last place that is used.
+#![tactic(auto)]
+
 ghost use Rattle.std.specs.Prelude.{cond, ◌≡◌, min, eqb};
 ghost use Rattle.ahead_serve.specs.Serving.{left_of, due_of, unpaid, Owing, Ranked, First};
 

@@ -1,4 +1,6 @@
 // Tests, differences and quotients of numbers of 32 bits, for any numbers.
+#![tactic(auto)]
+
 ghost use Rattle.std.specs.Prelude.{◌&&◌, ◌≡◌, ◌-◌, ◌/◌, ◌%◌, min, eqb};
 ghost use Rattle.spec_lists.specs.Lists.{within};
 ghost use Rattle.base_numbers.specs.Upward.{upward};

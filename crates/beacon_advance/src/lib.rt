@@ -1,4 +1,6 @@
 // The table after an interval: step F of document 01, "One beacon", first of one entry, then of all.
+#![tactic(auto)]
+
 ghost use Rattle.std.specs.Prelude.{◌≡◌};
 ghost use Rattle.spec_rules.specs.Ahead.{passed, renewed, settled};
 ghost use Rattle.beacon_advance.specs.Moving.{WithinAmounts, after_grant, Movable, moved_by};

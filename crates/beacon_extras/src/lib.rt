@@ -1,5 +1,7 @@
 // What each place gets of an interval with a header: document 02, No. 1. If kind 1 does not pass the header test with its extras, it gets none
 // and kind 2 shares alone.
+#![tactic(auto)]
+
 ghost use Rattle.std.specs.Prelude.{◌≡◌, true};
 ghost use Rattle.spec_model.specs.Tables.{held_of};
 ghost use Rattle.spec_rules.specs.Share.{extras_pass};

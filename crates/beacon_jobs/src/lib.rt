@@ -1,5 +1,7 @@
 // The jobs of an interval as rows, one row for each held entry in the tie order: at most sixteen jobs of one need. The plan of a table is
 // written from them. Document 01, "One beacon", steps D and E.
+#![tactic(auto)]
+
 ghost use Rattle.std.specs.Prelude.{◌++◌, ◌≡◌, ◌*◌, ◌≤◌, length, drop};
 ghost use Rattle.spec_rules.specs.Records.{record_words, plan_words, words_of};
 ghost use Rattle.spec_rules.specs.Calls.{plan_of};

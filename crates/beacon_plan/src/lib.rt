@@ -2,6 +2,8 @@
 // grows with the jobs and not with the slots. Rows stand in the order of the tie rules, one for each stream; job j of row i is
 // released at j times its length. Of a row only the first unfinished job matters: heads has its number and releases its release, and they
 // change where it ends. A turn ends a job, or comes to a release or to the end: there are at most 993 of them (specs/Turns.antt).
+#![tactic(auto)]
+
 ghost use Rattle.std.specs.Prelude.{◌≡◌, [], ◌++◌, map, ◌+◌, ◌*◌, ◌-◌, ◌≤◌, ◌<◌, min, length, drop, get_or, set, replicate};
 ghost use Rattle.spec_lists.specs.All.{All};
 ghost use Rattle.spec_model.specs.Frames.{slots_in, header_in};

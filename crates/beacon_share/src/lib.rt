@@ -1,6 +1,8 @@
 // What each request gets of an interval: steps B and C of document 01, "One beacon", over a table's places. Nothing here sorts: what is owed
 // at lower ranks is added up, place by place. The loops stop after the last place that is held. Arrays that are lent hold numbers of slots,
 // since no array of a type of ours can be; each is wrapped as it is read.
+#![tactic(auto)]
+
 ghost use Rattle.std.specs.Prelude.{◌≡◌, ◌-◌, ◌*◌, ◌≤◌, ◌<◌, false, cond, ltb, length, get_or};
 ghost use Rattle.spec_lists.specs.All.{All};
 ghost use Rattle.base_lists.specs.Spare.{Spare};
@@ -122,7 +124,7 @@ fn whole_weight(used: usize, limits: &[u32; 32], jobs: &[u32; 32], pieces: &[u32
 }
 
 // The figures by which an interval is shared: E, L and W, and whether kind 1 takes part.
-#[derive(Drop)]
+#[derive(Clone, Copy)]
 pub struct Sharing {
     pub capacity: Slots,
     pub remains: Slots,
@@ -131,7 +133,7 @@ pub struct Sharing {
 }
 
 // What one place gets: its slots of step B, and its extra, which for kind 1 goes to each of its jobs.
-#[derive(Drop)]
+#[derive(Clone, Copy)]
 pub struct Granted {
     pub piece: Slots,
     pub extra: Slots,
@@ -159,7 +161,7 @@ fn grants_of(used: usize, limits: &[u32; 32], pieces: &[u32; 32], s: Sharing) ->
 }
 
 // What each place gets.
-#[derive(Drop)]
+#[derive(Clone, Copy)]
 pub struct Shares {
     pub grants: [Granted; 32],
 }

@@ -1,5 +1,7 @@
 // The document's number of each answer: document 01, "Where each refusal is checked". A call answers with an enum of crate spec_model; whoever shows the answer asks for its number. The window, the calls on
 // a lent table and the program answer with numbers, which have their names here.
+#![tactic(auto)]
+
 ghost use Rattle.std.specs.Prelude.{◌≡◌};
 ghost use Rattle.spec_model.specs.Answers.{offer_number};
 ghost use Rattle.spec_model.specs.Numbers.{open_number, held_number, beacon_number};

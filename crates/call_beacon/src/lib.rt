@@ -1,5 +1,7 @@
 // Beacons: document 01, "Where each refusal is checked", `beacon`, and "One beacon". The plan of the interval is written to lent memory;
 // the call by value gives back the table after it, and a caller that changes its table in its place moves it on itself.
+#![tactic(auto)]
+
 ghost use Rattle.std.specs.Prelude.{◌≡◌};
 ghost use Rattle.spec_model.specs.Numbers.{beacon_number};
 ghost use Rattle.spec_rules.specs.Calls.{beacon};
@@ -9,7 +11,7 @@ ghost use Rattle.call_beacon.specs.Moves.{Moves};
 use beacon_share::Shares;
 use spec_model::{BeaconAnswer, Table};
 
-#[derive(Drop)]
+#[derive(Clone, Copy)]
 pub struct Beaconing {
     pub answer: BeaconAnswer,
     pub count: usize,
@@ -17,7 +19,7 @@ pub struct Beaconing {
 }
 
 // A beacon but for the table after it: what each place gets, and how many places are in use. None is where the table stays as it is.
-#[derive(Drop)]
+#[derive(Clone, Copy)]
 pub struct Planned {
     pub answer: BeaconAnswer,
     pub count: usize,

@@ -1,4 +1,6 @@
 // Withdrawals and enquiries: document 01, "Where each refusal is checked", `withdraw` and `enquire`. Both go by the place of a name.
+#![tactic(auto)]
+
 ghost use Rattle.std.specs.Prelude.{cond, ◌≡◌, ltb};
 ghost use Rattle.spec_model.specs.Entries.{free_entry};
 ghost use Rattle.spec_rules.specs.Calls.{held_answer, withdrawn};
@@ -10,7 +12,7 @@ ghost use Rattle.spec_model.specs.Tables.{places, put_in};
 use spec_model::{Entry, HeldAnswer, Name, Table};
 
 // ---- a withdrawal
-#[derive(Drop)]
+#[derive(Clone, Copy)]
 pub struct Withdrawal {
     pub answer: HeldAnswer,
     pub table: Table,
@@ -27,7 +29,7 @@ fn held_at(at: usize) -> HeldAnswer
 }
 
 // A withdrawal's answer, and the place that becomes free, which may be none.
-#[derive(Drop)]
+#[derive(Clone, Copy)]
 pub struct Released {
     pub answer: HeldAnswer,
     pub place: usize,
@@ -54,7 +56,7 @@ pub fn withdraw(t: Table, name: Name) -> Withdrawal
 }
 
 // ---- an enquiry
-#[derive(Drop)]
+#[derive(Clone, Copy)]
 pub struct Enquiry {
     pub answer: HeldAnswer,
     pub entry: Entry,

@@ -1,5 +1,7 @@
 // Offers: document 01, "Where each refusal is checked", `offer`. An offer is decided on a table that is only read: a caller that changes
 // its table in its place puts the entry there itself, and the call by value gives back the table after it.
+#![tactic(auto)]
+
 ghost use Rattle.std.specs.Prelude.{◌≡◌};
 ghost use Rattle.spec_model.specs.Answers.{offer_number};
 ghost use Rattle.spec_model.specs.Entries.{free_entry};
@@ -12,14 +14,14 @@ mod checks; // checks.rt: an offer's checks but for looking ahead, and the entry
 
 use spec_model::{Entry, Name, OfferAnswer, Request, Table};
 
-#[derive(Drop)]
+#[derive(Clone, Copy)]
 pub struct Offering {
     pub answer: OfferAnswer,
     pub table: Table,
 }
 
 // An offer's answer, and what it puts in the table: its entry, at a place, or at no place.
-#[derive(Drop)]
+#[derive(Clone, Copy)]
 pub struct Decision {
     pub answer: OfferAnswer,
     pub place: usize,

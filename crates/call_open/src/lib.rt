@@ -1,4 +1,6 @@
 // Openings: document 01, "Where each refusal is checked", `open`; document 02, No. 1.
+#![tactic(auto)]
+
 ghost use Rattle.std.specs.Prelude.{cond, ◌≡◌, eqb};
 ghost use Rattle.spec_model.specs.Numbers.{open_number};
 ghost use Rattle.spec_model.specs.Tables.{none_held, no_table};
@@ -11,7 +13,7 @@ const UNITS_LEAST: u32 = 1;
 
 const UNITS_LARGEST: u32 = 1000;
 
-#[derive(Drop)]
+#[derive(Clone, Copy)]
 pub struct Opening {
     pub answer: OpenAnswer,
     pub table: Table,

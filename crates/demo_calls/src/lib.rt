@@ -2,6 +2,8 @@
 // each record of a plan is a row `slot`. The fields are those of document 01, "Reading, lending, printing"; a row ends with a line feed.
 // What is printed is no part of a contract: a program over this crate runs the proved calls, and its run is held to the rows that are
 // stored beside it.
+#![tactic(auto)]
+
 ghost use Rattle.std.specs.Prelude.{◌≡◌, cond, ◌/◌, eqb, length};
 ghost use Rattle.spec_rules.specs.Calls.{offered, held_answer, withdrawn, beacon};
 ghost use Rattle.spec_rules.specs.Reading.{enquired, window_answer, window_part};
@@ -180,7 +182,7 @@ pub fn beacon(t: Table, plan: &mut [u32]) -> Table
 }
 
 // A window's answer, and how many records its part has.
-#[derive(Drop)]
+#[derive(Clone, Copy)]
 pub struct Part {
     pub answer: u32,
     pub records: usize,

@@ -1,5 +1,7 @@
 // Runs the proved calls on the cases of document 01, "Tested by hand", and on two of our own, and prints a row for each call and each
 // record. The rows that the document gives, and ours, are stored beside this file, in `stdout`, and every run is held to them.
+#![tactic(auto)]
+
 ghost use Rattle.std.specs.Prelude.{◌≤◌, length};
 ghost use Rattle.spec_rules.specs.WellFormed.{WellFormed};
 

@@ -1,5 +1,7 @@
 // A full table of 32 requests at 15 and at 1,000 time units, and four beacons on each: `make cost` counts what the four cost, by
 // callgrind. The cost of a beacon grows with jobs, and hardly with slots.
+#![tactic(auto)]
+
 ghost use Rattle.std.specs.Prelude.{◌≤◌};
 ghost use Rattle.spec_model.specs.ByNumbers.{setting};
 ghost use Rattle.spec_rules.specs.Settings.{Succeeds};

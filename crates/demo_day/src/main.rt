@@ -1,6 +1,8 @@
 // A day of a school with 30 readers, streams 1 to 30: six lessons of read-aloud streams (kinds 1 and 2), and loans of books (kind 3)
 // that are due before a bell. A row is printed for each call, and for each record of some plans; the rows of the day are stored beside
 // this file, in `stdout`, and every run is held to them. An interval has 100 time units, 102,400 slots.
+#![tactic(auto)]
+
 ghost use Rattle.spec_rules.specs.WellFormed.{WellFormed};
 
 use spec_model::{Intervals, Name, Request, Table};

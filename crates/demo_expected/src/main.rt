@@ -1,6 +1,8 @@
 // Cases 1 to 10 of document 01, "Tested by hand", and two of our own, on the proved calls and the proved window. Every answer, every record
 // count, every word of a plan and every word of a window's part that the document names is held to it by `check::expect`, which asks for a
 // proof that its test passes. So is the header, which is written and read back.
+#![tactic(auto)]
+
 ghost use Rattle.std.specs.Prelude.{◌*◌, ◌-◌, ◌≤◌, ◌≡◌, ◌++◌, length, drop};
 ghost use Rattle.spec_lists.specs.Lists.{same_list};
 ghost use Rattle.spec_shelf.specs.Printed.{header_most, header_row, written};

@@ -2,6 +2,8 @@
 // it there as the call leaves it. A beacon copies the table, makes the call by value, and stores the table after it. An offer copies it
 // for the decision by value, and stores one entry. The other calls read and write the table where it lies. An answer is the document's
 // number. Each contract is an equation over what the host had at entry and has at exit.
+#![tactic(auto)]
+
 ghost use Rattle.std.specs.Prelude.{cond, ◌≡◌, eqb, length, take, drop};
 ghost use Rattle.spec_rules.specs.Calls.{offer_answer, offered, held_answer, withdrawn, beacon};
 ghost use Rattle.spec_rules.specs.Reading.{enquired, window_answer, window_part};
@@ -14,14 +16,14 @@ use spec_model::{Entry, Name, Request, Setting, Slots, Table};
 // ---- what the calls give back
 // What a beacon sends besides the plan: its answer and its record count.
 #[repr(C)]
-#[derive(Drop)]
+#[derive(Clone, Copy)]
 pub struct Sent {
     pub answer: u32,
     pub count: usize,
 }
 
 #[repr(C)]
-#[derive(Drop)]
+#[derive(Clone, Copy)]
 pub struct Found {
     pub answer: u32,
     pub entry: Entry,
@@ -132,7 +134,7 @@ pub extern "C" fn gelmush_enquire(table: &Table, stream: u32) -> Found
 // ---- a window
 // A part of a plan: so many words, from the first on.
 #[repr(C)]
-#[derive(Drop)]
+#[derive(Clone, Copy)]
 pub struct Place {
     pub first: usize,
     pub words: usize,

@@ -2,6 +2,8 @@
 // header to t. A job's need is added up with those of all streams of as many parts: streams of m parts have the same period ends, and of i
 // parts the same number of jobs due at each. So the cost goes by the different numbers of parts, of which there are 15, and not by streams
 // times streams.
+#![tactic(auto)]
+
 ghost use Rattle.std.specs.Prelude.{◌≡◌, ◌+◌, ◌≤◌, ◌<◌};
 ghost use Rattle.spec_model.specs.Entries.{asks};
 ghost use Rattle.spec_model.specs.Tables.{places, held_of, put_in};

@@ -1,4 +1,6 @@
 // The checks of an offer's fields, refusals 12 to 15, by its kind. Document 01, "Where each refusal is checked".
+#![tactic(auto)]
+
 ghost use Rattle.std.specs.Prelude.{◌≡◌};
 ghost use Rattle.spec_model.specs.Answers.{offer_number, fields_answer};
 

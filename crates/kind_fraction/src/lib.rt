@@ -1,4 +1,6 @@
 // Fraction streams, kind 1: the least and largest value of each field. Document 01, "Units and one request".
+#![tactic(auto)]
+
 ghost use Rattle.std.specs.Prelude.{◌≡◌};
 ghost use Rattle.spec_model.specs.Answers.{offer_number};
 ghost use Rattle.spec_model.specs.Requests.{refusal, fraction_period, fraction_amounts, fraction_life, fraction_checks};
@@ -6,7 +8,7 @@ ghost use Rattle.spec_model.specs.Requests.{refusal, fraction_period, fraction_a
 use spec_model::{Intervals, OfferAnswer, Slots};
 
 // Kind 1: parts is m, and the period is the m-th part of the interval.
-#[derive(Drop)]
+#[derive(Clone, Copy)]
 pub struct FractionStream {
     pub parts: u32,
     pub min: Slots,

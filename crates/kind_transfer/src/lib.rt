@@ -1,4 +1,6 @@
 // Transfers, kind 3: the least and largest value of each field. Document 01, "Units and one request".
+#![tactic(auto)]
+
 ghost use Rattle.std.specs.Prelude.{◌≡◌};
 ghost use Rattle.spec_model.specs.Answers.{offer_number};
 ghost use Rattle.spec_model.specs.Requests.{refusal, transfer_period, transfer_amounts, transfer_life, transfer_checks};
@@ -6,7 +8,7 @@ ghost use Rattle.spec_model.specs.Requests.{refusal, transfer_period, transfer_a
 use spec_model::{Intervals, OfferAnswer, Slots};
 
 // Kind 3: an amount, once, before a deadline. The maximum is reserved.
-#[derive(Drop)]
+#[derive(Clone, Copy)]
 pub struct Transfer {
     pub deadline: Intervals,
     pub amount: Slots,

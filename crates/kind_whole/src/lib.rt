@@ -1,4 +1,6 @@
 // Whole streams, kind 2: the least and largest value of each field. Document 01, "Units and one request".
+#![tactic(auto)]
+
 ghost use Rattle.std.specs.Prelude.{◌≡◌};
 ghost use Rattle.spec_model.specs.Answers.{offer_number};
 ghost use Rattle.spec_model.specs.Requests.{refusal, whole_period, whole_amounts, whole_life, whole_checks};
@@ -6,7 +8,7 @@ ghost use Rattle.spec_model.specs.Requests.{refusal, whole_period, whole_amounts
 use spec_model::{Intervals, OfferAnswer, Slots};
 
 // Kind 2: so much in every period of so many intervals.
-#[derive(Drop)]
+#[derive(Clone, Copy)]
 pub struct WholeStream {
     pub period: Intervals,
     pub min: Slots,

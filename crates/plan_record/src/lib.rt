@@ -1,5 +1,7 @@
 // A record of a plan, as words of lent memory: one function writes its words, one reads them back. In code only these two know which word is
 // which. And the pen, which writes runs as records: slots of one job, one after the other, are one. Document 01, "One beacon", step E.
+#![tactic(auto)]
+
 ghost use Rattle.std.specs.Prelude.{◌≡◌, [], ◌∷◌, ◌+◌, ◌*◌, ◌≤◌, length, drop};
 ghost use Rattle.spec_rules.specs.Records.{record_words, record_at};
 ghost use Rattle.law_model.specs.Frames.{most_slots};
@@ -19,7 +21,7 @@ const START_WORD: usize = 2;
 const LENGTH_WORD: usize = 3;
 
 // Slots of one job, from a start on.
-#[derive(Drop)]
+#[derive(Clone, Copy)]
 pub struct Record {
     pub name: Name,
     pub job: u32,
@@ -28,7 +30,7 @@ pub struct Record {
 }
 
 // How many records are written, and the run that may still grow: none where its length is 0.
-#[derive(Drop)]
+#[derive(Clone, Copy)]
 pub struct Pen {
     pub count: usize,
     pub run: Record,

@@ -1,5 +1,7 @@
 // A window over a plan: the records that start from one slot on to just before another, as a part of the plan lent. Its answer goes to
 // a lent word, the only memory that it changes. Document 01, "Reading, lending, printing". Nothing is asked of the plan or the count.
+#![tactic(auto)]
+
 ghost use Rattle.std.specs.Prelude.{◌≡◌, ◌+◌, ◌*◌, ◌-◌, ◌≤◌, length, take, drop};
 ghost use Rattle.spec_rules.specs.Records.{record_words};
 ghost use Rattle.spec_rules.specs.Reading.{starts_of, rises, before, window_answer, window_part};
@@ -58,7 +60,7 @@ fn answer_of(plan: &[u32], count: usize, from: Slots, until: Slots) -> u32
 }
 
 // The answer, and where the part begins and ends, counted in records: nothing where it is refused.
-#[derive(Drop)]
+#[derive(Clone, Copy)]
 pub struct Bounds {
     pub answer: u32,
     pub first: usize,

@@ -1,4 +1,6 @@
 // What a row asks for. Document 01, "Reading, lending, printing".
+#![tactic(auto)]
+
 ghost use Rattle.std.specs.Prelude.{◌≡◌};
 ghost use Rattle.spec_shelf.specs.Commands.{setting_from, name_from, request_from, command_of};
 ghost use Rattle.row_command.specs.Reads.{verb_of, form_of, asked};
@@ -7,7 +9,7 @@ use spec_model::{Name, Request, Setting};
 use spec_shelf::Command;
 use spec_text::{FIELDS, Field, ROW_MOST};
 
-#[derive(Drop)]
+#[derive(Clone, Copy)]
 enum Verb {
     Open,
     Offer,

@@ -1,25 +1,27 @@
 // Rows of an input that comes in chunks of any size. The state between two chunks is a struct by value, and no chunk is kept.
+#![tactic(auto)]
+
 ghost use Rattle.std.specs.Prelude.{◌≡◌};
 ghost use Rattle.row_cut.specs.Lines.{line_in, reader_in, cut_at, with_byte, at_start, unheld, cut_from};
 
 use spec_text::ROW_MOST;
 
 // A row, or what is known of it so far. A length of 65 stands for every length above 64.
-#[derive(Drop)]
+#[derive(Clone, Copy)]
 pub struct Line {
     pub bytes: [u8; ROW_MOST],
     pub len: usize,
 }
 
 // The row that has begun, and whether a CR was kept back after it.
-#[derive(Drop)]
+#[derive(Clone, Copy)]
 pub struct Reader {
     pub line: Line,
     pub held: bool,
 }
 
 // How many bytes were taken, and whether the last of them ended the row.
-#[derive(Drop)]
+#[derive(Clone, Copy)]
 pub struct Cut {
     pub reader: Reader,
     pub taken: usize,

@@ -1,4 +1,6 @@
 // The fields of a row as byte strings and as numbers. Document 01, "Reading, lending, printing".
+#![tactic(auto)]
+
 ghost use Rattle.std.specs.Prelude.{◌≡◌};
 ghost use Rattle.spec_lists.specs.Lists.{same_list};
 ghost use Rattle.spec_text.specs.declared.Field.TheVariants.{Needed};
@@ -8,14 +10,14 @@ ghost use Rattle.row_fields.specs.FieldReads.{field_read, fields_read};
 use spec_text::{FIELDS, Field};
 
 // A field as a number: 0 where it has another form.
-#[derive(Drop)]
+#[derive(Clone, Copy)]
 struct Number {
     good: bool,
     value: u32,
 }
 
 // The fields after the verb as numbers: zeros where one has another form.
-#[derive(Drop)]
+#[derive(Clone, Copy)]
 pub struct Numbers {
     pub good: bool,
     pub values: [u32; FIELDS],

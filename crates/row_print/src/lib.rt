@@ -1,5 +1,7 @@
 // The header and the rows of calls in lent memory. Each function writes at a place and answers the place after what it wrote; every other
 // byte stays as it was. The caller lends room for the longest row.
+#![tactic(auto)]
+
 ghost use Rattle.std.specs.Prelude.{◌≡◌, ◌∷◌, ◌+◌, ◌≤◌, length};
 ghost use Rattle.spec_shelf.specs.Bytes.{written};
 ghost use Rattle.spec_shelf.specs.Printed.{name_most, header_most, plain_most, stream_most};

@@ -1,4 +1,6 @@
 // The rows of a plan's records in lent memory, written as the rows of calls are.
+#![tactic(auto)]
+
 ghost use Rattle.std.specs.Prelude.{◌≡◌, ◌+◌, ◌*◌, ◌≤◌, length};
 ghost use Rattle.spec_rules.specs.Records.{record_words};
 ghost use Rattle.plan_record.specs.Recorded.{run_of};

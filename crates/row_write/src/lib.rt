@@ -1,5 +1,7 @@
 // Bytes, numbers and fields in lent memory. Each function writes at a place and answers the place after what it wrote; every other byte
 // stays as it was. The caller lends room.
+#![tactic(auto)]
+
 ghost use Rattle.std.specs.Prelude.{◌≡◌, ◌∷◌, ◌+◌, ◌≤◌, length};
 ghost use Rattle.spec_shelf.specs.Bytes.{number_most, decimal, written};
 

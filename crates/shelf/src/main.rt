@@ -1,5 +1,7 @@
 // The program `shelf`: rows of calls on standard input, rows of answers and plans on standard output. Document 01, "Reading, lending,
 // printing". What it does with each byte is in crate shelf_rows; here are the reads and writes, and what is handed from one to the next.
+#![tactic(auto)]
+
 ghost use Rattle.std.specs.Prelude.{◌≡◌, true, false, ◌≤◌, ◌<◌, length, take};
 ghost use Rattle.io.specs.Counts.{clamp_len};
 ghost use Rattle.spec_shelf.specs.Printed.{header_row, written};
@@ -13,7 +15,7 @@ use shelf_state::Shelf;
 use shelf_write::Flow;
 
 // What became of all that was read, how many bytes that is, and what the last read answered.
-#[derive(Drop)]
+#[derive(Clone, Copy)]
 struct Run {
     flow: Flow,
     given: usize,

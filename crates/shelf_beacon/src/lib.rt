@@ -1,4 +1,6 @@
 // A row that is a beacon: the call, and the rows of its answer in lent memory.
+#![tactic(auto)]
+
 ghost use Rattle.std.specs.Prelude.{◌≡◌, ◌+◌, ◌≤◌, length};
 ghost use Rattle.spec_model.specs.Numbers.{no_table_number};
 ghost use Rattle.spec_rules.specs.Records.{plan_words};
@@ -13,7 +15,7 @@ use beacon_share::Shares;
 use spec_model::Table;
 
 // The place after its rows, and what moves the table on: the shares of the places in use. Where none is in use the table stays.
-#[derive(Drop)]
+#[derive(Clone, Copy)]
 pub struct BeaconRows {
     pub at: usize,
     pub used: usize,

@@ -1,4 +1,6 @@
 // The end of the input: the last row may lack its CR LF, and is served as if it had them.
+#![tactic(auto)]
+
 ghost use Rattle.std.specs.Prelude.{◌≡◌, ◌+◌, ◌≤◌, length};
 ghost use Rattle.spec_shelf.specs.Printed.{written};
 ghost use Rattle.spec_rules.specs.Records.{plan_words};

@@ -1,5 +1,7 @@
 // A row's call, and the rows of its answer in lent memory. A call reads the table and gives back what is to be put in it: the caller
 // changes its own table in its place. Here are an opening, and what an offer and a withdrawal give back.
+#![tactic(auto)]
+
 ghost use Rattle.std.specs.Prelude.{◌≡◌, ◌+◌, ◌≤◌, eqb, length};
 ghost use Rattle.spec_model.specs.Entries.{free_entry};
 ghost use Rattle.spec_model.specs.Tables.{no_place};
@@ -12,7 +14,7 @@ use spec_model::{Entry, Setting};
 
 // ---- an opening
 // The place after its row, and whether there is a new table.
-#[derive(Drop)]
+#[derive(Clone, Copy)]
 pub struct OpenRow {
     pub at: usize,
     pub succeeded: bool,
@@ -34,7 +36,7 @@ pub fn answer_open(s: Setting, out: &mut [u8], at: usize) -> OpenRow
 
 // ---- an offer and a withdrawal
 // The place after its row, and the entry that it puts in the table, at a place there, or at no place.
-#[derive(Drop)]
+#[derive(Clone, Copy)]
 pub struct Put {
     pub at: usize,
     pub place: usize,

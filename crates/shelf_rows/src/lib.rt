@@ -1,5 +1,7 @@
 // Rows of text in, rows of text out: each row that is read is a call of the planner, whose answer is printed. What stands between two
 // rows, and between two chunks of the input, is a struct by value, see crate shelf_state.
+#![tactic(auto)]
+
 ghost use Rattle.std.specs.Prelude.{◌≡◌, ◌+◌, ◌≤◌, length, take};
 ghost use Rattle.spec_shelf.specs.Printed.{written};
 ghost use Rattle.spec_rules.specs.Records.{plan_words};

@@ -1,4 +1,6 @@
 // A row that is a withdrawal: the call, and the row of its answer in lent memory.
+#![tactic(auto)]
+
 ghost use Rattle.std.specs.Prelude.{◌≡◌, ◌+◌, ◌≤◌, length};
 ghost use Rattle.spec_model.specs.Tables.{put_in};
 ghost use Rattle.spec_shelf.specs.declared.Command.TheVariants.{Withdraw};

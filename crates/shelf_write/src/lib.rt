@@ -1,5 +1,7 @@
 // Rows handed to writes: those of one part of a chunk, and those of the last row. What becomes of a write no contract can say. What is
 // handed to it, and how many bytes that is, the contracts say.
+#![tactic(auto)]
+
 ghost use Rattle.std.specs.Prelude.{◌≡◌, ◌+◌, ◌^◌, ◌<◌, ◌≤◌, false, length, take};
 ghost use Rattle.spec_shelf.specs.Printed.{written};
 ghost use Rattle.spec_rules.specs.Records.{plan_words};
@@ -11,14 +13,14 @@ ghost use Rattle.shelf_write.specs.Flows.{Flowed, flow_then};
 use shelf_state::Shelf;
 
 // How many bytes were handed to a write, and whether it took them all.
-#[derive(Drop)]
+#[derive(Clone, Copy)]
 pub struct Handed {
     pub bytes: usize,
     pub well: bool,
 }
 
 // The shelf after some bytes of the input, how many they are, how many bytes were handed to writes, and whether these took them all.
-#[derive(Drop)]
+#[derive(Clone, Copy)]
 pub struct Flow {
     pub shelf: Shelf,
     pub taken: usize,

@@ -1,5 +1,7 @@
 // Units, an offer's fields as they came, and the table that holds requests. Document 01, "Units and one request"; document 02,
 // No. 1.
+#![tactic(auto)]
+
 ghost use Rattle.std.specs.Prelude.{◌≡◌, ◌≤◌};
 ghost use Rattle.spec_model.specs.Answers.{offer_number};
 ghost use Rattle.spec_model.specs.Entries.{free_entry};
@@ -9,11 +11,11 @@ ghost use Rattle.spec_model.specs.Requests.{refusal, in_order, range_checks};
 
 // Counts of slots and counts of beacon intervals are different units: no sum takes one of each.
 #[repr(C)]
-#[derive(Drop)]
+#[derive(Clone, Copy)]
 pub struct Slots(pub u32);
 
 #[repr(C)]
-#[derive(Drop)]
+#[derive(Clone, Copy)]
 pub struct Intervals(pub u32);
 
 // ---- sizes, each by its own name
@@ -33,7 +35,7 @@ pub const MOST_RECORDS: usize = 1024;
 pub const PLAN_WORDS: usize = RECORD_WORDS * MOST_RECORDS;
 
 // ---- what an opening is told, any numbers
-#[derive(Drop)]
+#[derive(Clone, Copy)]
 pub struct Setting {
     pub units: u32,
     pub header: u32,
@@ -41,7 +43,7 @@ pub struct Setting {
 
 // ---- what an interval is: handed on whole, and read by the names of specs/Frames.antt
 #[repr(C)]
-#[derive(Drop)]
+#[derive(Clone, Copy)]
 pub struct Frame {
     pub slots: Slots,
     pub header: Slots,
@@ -55,7 +57,7 @@ pub fn room_in(f: Frame) -> Slots
 
 // ---- the name of a request, told apart and ordered by the functions here alone
 #[repr(C)]
-#[derive(Drop)]
+#[derive(Clone, Copy)]
 pub struct Name {
     pub stream: u32,
 }
@@ -97,7 +99,7 @@ pub const NAME_ROOM: u64 = 65536;
 
 // ---- answers
 // What an offer answers.
-#[derive(Drop)]
+#[derive(Clone, Copy)]
 pub enum OfferAnswer {
     Accepted,
     StreamOutside,
@@ -111,27 +113,27 @@ pub enum OfferAnswer {
 }
 
 // What the other calls answer.
-#[derive(Drop)]
+#[derive(Clone, Copy)]
 pub enum OpenAnswer {
     Opened,
     UnitsOutside,
     HeaderOutside,
 }
 
-#[derive(Drop)]
+#[derive(Clone, Copy)]
 pub enum HeldAnswer {
     Held,
     NotHeld,
 }
 
-#[derive(Drop)]
+#[derive(Clone, Copy)]
 pub enum BeaconAnswer {
     Planned,
     PlanTooShort,
 }
 
 // An offer's six fields as they came: any numbers.
-#[derive(Drop)]
+#[derive(Clone, Copy)]
 pub struct Request {
     pub name: Name,
     pub kind: u32,
@@ -178,7 +180,7 @@ pub fn first_outside(period: bool, amounts: bool, life: bool) -> OfferAnswer
 // life_left counts the intervals still to come. Kinds 2 and 3 also have the slots owed for the minimum, the slots given in this
 // period, and the intervals left to its deadline.
 #[repr(C)]
-#[derive(Drop)]
+#[derive(Clone, Copy)]
 pub struct Entry {
     pub name: Name,
     pub kind: u32,
@@ -195,7 +197,7 @@ pub struct Entry {
 
 // The planner's whole state: what an interval is, and 32 places.
 #[repr(C)]
-#[derive(Drop)]
+#[derive(Clone, Copy)]
 pub struct Table {
     pub frame: Frame,
     pub entries: [Entry; 32],

@@ -1,4 +1,6 @@
 // What the program's rows say: the call that a row asks for, and the table between two rows. What they mean is in specs/.
+#![tactic(auto)]
+
 use spec_model::{Name, Request, Setting, Table};
 
 // The most bytes of a record's row, the bytes kept for the row of a call, and the most bytes of an answer: that row, and those of the
@@ -10,7 +12,7 @@ const CALL_ROOM: usize = 1024;
 pub const ANSWER_MOST: usize = CALL_ROOM + SLOT_ROW_MOST * spec_model::MOST_RECORDS;
 
 // What a row asks for.
-#[derive(Drop)]
+#[derive(Clone, Copy)]
 pub enum Command {
     Open(Setting),
     Offer(Request),
@@ -20,7 +22,7 @@ pub enum Command {
 }
 
 // The table, where an opening has succeeded.
-#[derive(Drop)]
+#[derive(Clone, Copy)]
 pub struct State {
     pub ready: bool,
     pub table: Table,

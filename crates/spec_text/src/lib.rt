@@ -1,4 +1,5 @@
 // Rows of text: their sizes, and what a verb asks of a field. What rows are made of is in specs/.
+#![tactic(auto)]
 
 // The most bytes of a row before its CR LF.
 pub const ROW_MOST: usize = 64;
@@ -7,7 +8,7 @@ pub const ROW_MOST: usize = 64;
 pub const FIELDS: usize = 6;
 
 // What a verb asks of a field: a number; a number, or nothing, which then counts as the number here; nothing.
-#[derive(Drop)]
+#[derive(Clone, Copy)]
 pub enum Field {
     Needed,
     MayBeEmpty(u32),

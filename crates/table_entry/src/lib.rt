@@ -1,5 +1,7 @@
 // Amounts of one entry of a table by document 01, "One beacon", steps A to C: its jobs, its load, its rank, what it is owed and what it
 // may still get.
+#![tactic(auto)]
+
 ghost use Rattle.std.specs.Prelude.{◌≡◌, ◌+◌, ◌*◌};
 ghost use Rattle.spec_model.specs.Entries.{is_piece};
 ghost use Rattle.spec_model.specs.Names.{name_rank, name_room};

@@ -1,4 +1,6 @@
 // The places of a table: an entry put at one, and the place of a request by its name, in a table by value and in a lent one.
+#![tactic(auto)]
+
 ghost use Rattle.std.specs.Prelude.{◌≡◌};
 ghost use Rattle.spec_model.specs.Tables.{put_in};
 ghost use Rattle.base_lists.specs.First.{first_of};

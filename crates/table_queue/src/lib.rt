@@ -1,4 +1,6 @@
 // A table's queue: the figures that an interval is shared by, document 01, "One beacon", steps A to C, read from the places in one loop.
+#![tactic(auto)]
+
 ghost use Rattle.spec_rules.specs.WellFormed.{Tidy};
 ghost use Rattle.table_queue.specs.Queues.{Queued};
 
@@ -7,7 +9,7 @@ use spec_model::Table;
 // A table read once: the load of step A, and steps B and C by numbers, place by place: a rank, what is owed there, what it may still get
 // before that, and its jobs. From place `used` on all are free. The load is in slots: a sum of slots, as wide as needed, is a bare number of 64
 // bits.
-#[derive(Drop)]
+#[derive(Clone, Copy)]
 pub struct Queue {
     pub used: usize,
     pub load: u64,

@@ -1,5 +1,7 @@
 // What an offer asks of a table's places before looking ahead: whether the stream is held, the first free place, what an even share of each
 // interval takes, and the last place in use. One pass finds all of it, since each function that reads the places has a copy of the table.
+#![tactic(auto)]
+
 ghost use Rattle.std.specs.Prelude.{true, cond, ◌||◌, ◌≡◌, ◌+◌, ◌*◌, ◌≤◌, ◌<◌, eqb, leb};
 ghost use Rattle.spec_lists.specs.Lists.{sum_of};
 ghost use Rattle.base_lists.specs.First.{first_of};
@@ -18,7 +20,7 @@ use spec_model::{Entry, Frame, Name, Table};
 
 // Whether the name is held; the first free place, or no place; the slots of an interval that an even share takes; one more than
 // the last held place, 0 where none is held.
-#[derive(Drop)]
+#[derive(Clone, Copy)]
 pub struct Survey {
     pub taken: bool,
     pub free: usize,
