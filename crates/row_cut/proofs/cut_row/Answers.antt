@@ -7,6 +7,7 @@ use borrow.Author.Rules.{rules}
 use Rattle.row_cut.specs.Lines.{line_in, reader_in, cut_from}
 use Rattle.row_cut.specs.LineLaws.{GoesOn, none_held_lem, cr_kept, cut_here, cut_cr, cut_byte, cut_through}
 use Rattle.row_cut.proofs.cut_row.Goals as goal
+use Rattle.row_cut.proofs.cut_row.Goals.{Joined-held}
 
 pub loop-i-init : goal.loop-i-init
 loop-i-init c = (omega arith, refl)
@@ -18,7 +19,7 @@ returns-then-b-eq10 c =
     rw c.cut_of.ensures (sym here ∙ t.before.loop-i.invariant.1)
 
 -- where the ways meet that keep the CR and that have none
-goes_on : (c : goal.Joined-held)
+goes_on : (c : Joined-held)
     → let l = c.before.before.before.loop-i in
     GoesOn
     (reader_in l.bytes-1 l.len l.held)
@@ -44,4 +45,4 @@ loop-i-preserved c =
     (omega arith, sym (cut_cr _ _ _ _ t.loop-i-test.true (goes_on j) c.if-b-ne13.false) ∙ t.before.loop-i.invariant.1)
 
 pub returns : goal.returns
-returns-then-b-eq10 c = rw c.cut_of-2.ensures (sym (cut_through _ _ _ c.before.loop-i-test.false) ∙ c.before.before.loop-i.invariant.1)
+returns c = rw c.cut_of-2.ensures (sym (cut_through _ _ _ c.before.loop-i-test.false) ∙ c.before.before.loop-i.invariant.1)

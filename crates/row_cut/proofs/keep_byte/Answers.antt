@@ -11,4 +11,4 @@ returns-then-len-lt-ROW_MOST c = rw (lt-ltb _ _ c.if-len-lt-ROW_MOST.true, add-o
 
 pub returns : goal.returns
 unfolding with_byte
-returns-then-len-lt-ROW_MOST c = rw (le-ltb _ _ c.if-len-lt-ROW_MOST.false) refl
+returns c = rw (le-ltb _ _ c.if-len-lt-ROW_MOST.false) refl

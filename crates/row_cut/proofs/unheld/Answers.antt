@@ -9,4 +9,4 @@ returns-then-r c = rw c.before.before.before.if-r.true c.keep_byte-len.ensures
 
 pub returns : goal.returns
 unfolding unheld
-returns-then-r c = rw c.if-r.false refl
+returns c = rw c.if-r.false refl

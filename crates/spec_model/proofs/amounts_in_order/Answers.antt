@@ -9,4 +9,4 @@ pub returns-then-most-least : goal.returns-then-most-least
 returns-then-most-least c = rw (le-leb _ _ c.before.if-least-lowest.false, lt-leb _ _ c.if-most-least.true)
 
 pub returns : goal.returns
-returns-then-least-lowest c = rw (le-leb _ _ c.before.if-least-lowest.false, le-leb _ _ c.if-most-least.false)
+returns c = rw (le-leb _ _ c.before.if-least-lowest.false, le-leb _ _ c.if-most-least.false)

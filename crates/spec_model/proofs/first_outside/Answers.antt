@@ -15,4 +15,4 @@ returns-then-not-life c = rw (c.before.before.if-not-period.false, c.before.if-n
 
 pub returns : goal.returns
 unfolding refusal
-returns-then-not-period c = rw (c.before.before.if-not-period.false, c.before.if-not-amounts.false, c.if-not-life.false)
+returns c = rw (c.before.before.if-not-period.false, c.before.if-not-amounts.false, c.if-not-life.false)
