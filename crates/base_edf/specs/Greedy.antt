@@ -78,12 +78,12 @@ module _ {A : Type 0} (at : A → Source) {g : A → ℕ} where
   takes_first : (d : ℕ) {c : ℕ} {xs : List A} → Rising at xs → Takes at g c xs
       → sum_of (given at g d) xs ≡ min c (sum_of (owed at d) xs)
   takes_first d flat none = omega arith
-  takes_first d (rise {x = x} h r) (take e t) =
+  takes_first d {c = c} (rise {x = x} h r) (take e t) =
       elim (dec_le (left (at x)) d) [
-        | yes q ↦ omega (arith, due_in_lem (left (at x)) d (g x) q, due_in_lem (left (at x)) d (rem (at x)) q, takes_first d r t)
+        | yes q ↦ omega (arith, due_in_lem (left (at x)) d (g x) q, due_in_lem (left (at x)) d (rem (at x)) q, takes_first d {c = c - g x} r t)
         | no q ↦ omega (
           arith,
-          takes_first d r t,
+          takes_first d {c = c - g x} r t,
           due_out (left (at x)) d (g x) (omega arith),
           due_out (left (at x)) d (rem (at x)) (omega arith),
           sum_zero (owed at d) (all_map (λ y l. due_out (left (at y)) d (rem (at y)) (omega arith)) h),
