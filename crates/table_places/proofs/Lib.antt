@@ -1,4 +1,0 @@
-pub mod Known
-mod Nobody
-pub mod Named
-pub mod Search
