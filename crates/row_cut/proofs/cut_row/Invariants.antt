@@ -1,11 +1,7 @@
-use mathlib.Core.Path.{◌≡◌, refl, sym, ◌∙◌}
-use mathlib.Core.Logic.{⊎_elim}
+use mathlib.Core.Path.{◌≡◌}
 use Prim.Native.Nat.{◌-◌, ◌≤◌}
-use native.Mathlib.Omega.{arith}
-use lib.ListN.{length, drop, get_or}
-use borrow.Author.Rules.{rules}
-use Rattle.row_cut.specs.Lines.{line_in, reader_in, cut_from}
-use Rattle.row_cut.specs.LineLaws.{GoesOn, none_held_lem, cr_kept, cut_here, cut_cr, cut_byte, cut_through}
+use lib.ListN.{length, drop}
+use Rattle.row_cut.specs.Lines.{reader_in, cut_from}
 use Rattle.row_cut.proofs.cut_row.Given as goal
 
 abbrev pub invariant-loop-i : goal.invariant-loop-i

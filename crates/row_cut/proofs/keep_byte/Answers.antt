@@ -1,7 +1,6 @@
 use native.Mathlib.Numerals.{add-one}
 use borrow.Author.Tests.{lt-ltb, le-ltb}
 use mathlib.Core.Path.{refl}
-use borrow.Author.Rules.{rules}
 use Rattle.row_cut.specs.Lines.{with_byte}
 use Rattle.row_cut.proofs.keep_byte.Goals as goal
 

@@ -1,6 +1,5 @@
 use mathlib.Core.Path.{refl}
 use Rattle.row_cut.specs.Lines.{unheld}
-use borrow.Author.Rules.{rules}
 use Rattle.row_cut.proofs.unheld.Goals as goal
 
 pub returns-then-r : goal.returns-then-r
