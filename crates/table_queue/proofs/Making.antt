@@ -4,10 +4,8 @@ use mathlib.Core.Bool.{true, false, cond}
 use mathlib.Core.List.{List, map}
 use Prim.Native.Nat.{ℕ, ◌+◌, ◌*◌, ◌≤◌, ◌<◌}
 use native.Mathlib.Omega.{arith}
-use lib.ListN.{take, set, get_or, replicate, length-take}
+use lib.ListN.{length, take, set, get_or, replicate, length-take}
 use lib.Seq.{take_all}
-use mir.Val.{Val}
-use denote.Laws.{Is}
 use Rattle.spec_lists.specs.All.{stop}
 use Rattle.base_lists.specs.All.{all_at}
 use Rattle.base_lists.specs.Loops.{summed, summed_more, summed_all, map_at}
@@ -27,7 +25,6 @@ use Rattle.table_entry.specs.Amounts.{owed_to, limit_of, jobs_in}
 use Rattle.table_places.proofs.Known.{inside, past, size}
 use Rattle.table_queue.specs.declared.Queue.{Queue}
 use Rattle.table_queue.specs.Queues.{Queued, free_place}
-use Rattle.spec_model.specs.contracts.Table as T
 
 -- an array that the loop fills by the first i places: at a free one it has what it began with
 abbrev Read : (t : Table) (i : ℕ) (f : Entry → ℕ) → List ℕ → Type 0
@@ -47,7 +44,7 @@ pub record Making (t : Table) (i : ℕ) (q : Queue) : Type 0 where
 abbrev pub queue : (used load : ℕ) (ranks owed limits jobs : List ℕ) → Queue
 queue n all ks os ds ms = record { used = n; load = all; ranks = ks; owed = os; limits = ds; jobs = ms }
 
-module _ (t : Table) {vs : List Val} (p : Is T.the_row t vs) (w : Tidy t) where
+module _ (t : Table) (p : length t.entries ≡ places) (w : Tidy t) where
   pub making_none : Making t 0 (queue 0 0 (replicate places 0) (replicate places 0) (replicate places 0) (replicate places 0))
   making_none =
       record {
