@@ -1,6 +1,5 @@
 use Rattle.std.proofs.Common.{◌≡◌, sym, ap, ◌∙◌, not, length, arith}
-use Rattle.spec_model.specs.Tables.{places}
-use Rattle.table_queue.proofs.Making.{Making, queue, making_none, load_small, making_more, making_same, making_all}
+use Rattle.table_queue.proofs.Making.{making_none, load_small, making_more, making_same, making_all}
 use Rattle.table_queue.proofs.queue_of.Goals as goal
 use Rattle.table_queue.proofs.queue_of.Goals.{then-not-is_nobody, else-not-is_nobody}
 
@@ -17,13 +16,12 @@ loop-i-preserved c =
     let t = c.args.t in
     let all : length t.entries ≡ 32 = omega arith in
     let h = c.loop-i-test.true in
-    let f = ap not (sym c.is_nobody.ensures) in
     elim c.if-not-is_nobody.branch [
       | then-not-is_nobody w ↦ rw (w.used-is, w.load-is, w.ranks-is, w.owed-is, w.limits-is, w.jobs-is)
-        (making_more t all c.requires c.loop-i.invariant h (f ∙ w.if-not-is_nobody.true) w.load_of-load.ensures w.rank.ensures
-        w.owed_of.ensures w.limit_of.ensures w.job_count.ensures)
+          (making_more t all c.requires c.loop-i.invariant h (ap not (sym c.is_nobody.ensures ∙ w.if-not-is_nobody.true)) w.load_of-load.ensures w.rank.ensures
+          w.owed_of.ensures w.limit_of.ensures w.job_count.ensures)
       | else-not-is_nobody w ↦ rw (w.used-is, w.load-is, w.ranks-is, w.owed-is, w.limits-is, w.jobs-is)
-        (making_same t all c.requires c.loop-i.invariant h (f ∙ w.if-not-is_nobody.false))
+          (making_same t all c.requires c.loop-i.invariant h (ap not (sym c.is_nobody.ensures ∙ w.if-not-is_nobody.false)))
     ]
 
 pub returns : goal.returns
