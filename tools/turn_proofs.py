@@ -151,7 +151,8 @@ def turn_file(crate, folder, info, own, clauses, root):
                 i = k
                 continue
             if prev == "args" or (prev and norm(prev) in fields and fields[norm(prev)].startswith("loop")):
-                out.append(p.replace("-", "_") if "-" in p else p)
+                p = p.replace("-", "_")
+                out.append(re.sub(r"^([a-z]+)1$", r"\1", p) if prev == "args" else p)
             elif n in fields and p != "before" and p not in ("now", "result", "true", "false"):
                 out.append(fields[n])
             else:
