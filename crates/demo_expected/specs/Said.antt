@@ -14,7 +14,8 @@ use Rattle.spec_rules.specs.Settings.{frame_of, opened}
 use Rattle.spec_rules.specs.Records.{record_words, plan_words, words_of}
 use Rattle.spec_rules.specs.Calls.{offer_answer, offered, plan_of, advanced, Beacon, refused_beacon, planned_beacon, beacon}
 use Rattle.spec_rules.specs.Reading.{window_answer, window_part}
-use Rattle.spec_rules.specs.Cases.{State, Line, Tick, Window, reply, plays, start, cases, cases_right}
+use Rattle.spec_rules.specs.Cases.{State, Line, Tick, Window, reply, plays, start, cases}
+use Rattle.spec_rules.proofs.Cases.{cases_right}
 use Rattle.spec_rules.specs.Cases.{offers1, case1, cases23, case4, case5, case6, case7, case8, case9, ties_of_kind1}
 use Rattle.law_model.specs.Records.{length_words}
 use Rattle.spec_model.specs.ByNumbers.{setting, request}

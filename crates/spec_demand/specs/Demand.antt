@@ -1,6 +1,6 @@
 -- Demand 3, "What a list of calls gives" of document 01 and No. 1 of document 02, as one statement over arguments, answers and plans: no table
 -- is named in it.
--- F is the interval. docs/GUARANTEE.md reads it line by line; specs/Bounds.antt has what lies on each bound and beyond.
+-- F is the interval. docs/GUARANTEE.md reads it line by line; proofs/Bounds.antt has what lies on each bound and beyond.
 -- Assumes nothing.
 use Rattle.std.specs.Prelude.{◌≡◌, ◌⊎◌, ◌↔◌, ◌≢◌, not, ◌&&◌, List, [], ◌∷◌, ◌++◌, ℕ, suc, ◌+◌, ◌*◌, ◌-◌, ◌≤◌, ◌<◌, ltb, leb, length, get_or}
 use Rattle.spec_lists.specs.Lists.{one_if, sum_of, any_of, span}

@@ -1,5 +1,4 @@
 pub mod History
 pub mod Ledger
 pub mod Demand
-pub mod Bounds
 pub mod Assignment

@@ -1,22 +1,15 @@
--- The worked cases 1 to 9 of document 01, "Tested by hand", and after them three of our own: one list, and one theorem. Where a case leaves
--- a field open, docs/DECISIONS.md says what was chosen. Assumes nothing.
-use Rattle.std.specs.Prelude.{ℕ, ◌*◌, ◌≡◌, refl, Bool, true, ◌&&◌, List, [], ◌∷◌, ◌++◌, eqb, take, replicate}
+-- The worked cases 1 to 9 of document 01, "Tested by hand", and after them three of our own: one list; proofs/Cases.antt has the theorem. Where
+-- a case leaves a field open, docs/DECISIONS.md says what was chosen. Assumes nothing.
+use Rattle.std.specs.Prelude.{ℕ, ◌*◌, Bool, true, ◌&&◌, List, [], ◌∷◌, ◌++◌, eqb, take, replicate}
 use Rattle.spec_lists.specs.Lists.{same_list}
-use Rattle.spec_model.specs.Requests.{refusal, field_checks}
-use Rattle.spec_model.specs.Frames.{room_in}
-use Rattle.spec_model.specs.Names.{same, lower, name_in_range}
 use Rattle.spec_model.specs.ByNumbers.{stream, setting, request}
-use Rattle.spec_model.specs.Entries.{entry_of}
 use Rattle.spec_model.specs.declared.Table.{Table}
-use Rattle.spec_rules.specs.Share.{Grant, load_of, load, slots_for, order, take_turns, step_b, remains, weight, extra, share_among, extras_pass, takes_part, step_c}
-use Rattle.spec_rules.specs.Header.{ends_of, due_by, header_test}
-use Rattle.spec_rules.specs.Slots.{jobs_from, tie_order, jobs, choose, slots_from, step_d, prepend, runs_from, step_e}
-use Rattle.spec_rules.specs.Ahead.{passed, renewed, settled, step_f, goes_well, fits_ahead}
+use Rattle.spec_rules.specs.Share.{Grant, step_b, remains, weight, takes_part, step_c}
 use Rattle.spec_model.specs.Tables.{held_of}
-use Rattle.spec_rules.specs.Settings.{open_answer, frame_of, opened}
-use Rattle.spec_rules.specs.Records.{record_words, plan_words, words_of_run, record_at, words_of, records_of}
-use Rattle.spec_rules.specs.Calls.{offer_answer, placed, offered, held_answer, withdrawn, plan_of, advanced, Beacon, beacon}
-use Rattle.spec_rules.specs.Reading.{starts_of, rises, before, window_answer, window_part}
+use Rattle.spec_rules.specs.Settings.{open_answer, opened}
+use Rattle.spec_rules.specs.Records.{record_words, plan_words}
+use Rattle.spec_rules.specs.Calls.{offer_answer, offered, held_answer, withdrawn, Beacon, beacon}
+use Rattle.spec_rules.specs.Reading.{window_answer, window_part}
 
 -- a call, or a look at the figures of the next step C: L, W, then each request's stream and extra
 pub data Ask : Type 0 where
@@ -197,12 +190,3 @@ cases = case1 ++ cases23 ++ case4 ++ case5 ++ case6 ++ case7 ++ case8 ++ case9 +
 
 abbrev pub start : State
 start = record { table = opened (setting 1 0); words = replicate plan_words 0; count = 0 }
-
-pub cases_right : plays start cases ≡ true
-unfolding refusal field_checks entry_of room_in same lower name_in_range
-    ends_of due_by header_test load_of load slots_for order take_turns step_b remains weight extra share_among extras_pass step_c
-    jobs_from tie_order jobs choose slots_from step_d prepend runs_from step_e
-    passed renewed settled step_f goes_well fits_ahead
-    open_answer frame_of opened offer_answer placed offered held_answer withdrawn words_of_run words_of record_at records_of plan_of advanced beacon
-    starts_of rises before window_answer window_part
-cases_right = refl

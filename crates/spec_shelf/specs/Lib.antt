@@ -3,4 +3,3 @@ pub mod Meaning
 pub mod Room
 pub mod Bytes
 pub mod Commands
-pub mod Openings
