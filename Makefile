@@ -3,39 +3,31 @@ SHELL := /bin/bash
 .SHELLFLAGS := -o pipefail -c
 .PHONY: show test reference compared archive bindings failures bench fuzz lists cost picture
 
-# Proves a crate and what it rests on: a line for each crate that is proved anew, and the start of what is wrong with one that is not. All on
-# standard error, so that standard output has what a command is asked for and no more.
+# Proves a crate and what it rests on, and builds it into target/: with `run` a program, which is given an empty input, with `lib` a static
+# library. A line says so where it is proved, else the start of what is wrong. All on standard error, so that standard output has what a
+# command is asked for and no more.
 define prove
-@echo "proving $(1) and what it rests on: about five minutes the first time, on two cores, and seconds where nothing changed" >&2
-@rt check $(1) | while IFS= read -r line; do case $$line in \
-    'rt: '*'(unchanged since it was last proved)') ;; \
-    'rt: '*' NOT PROVED (exit '*) echo "$$line"; set -- $$line; \
-        grep -v '^rt: \|^library \|^logic\|: proved$$' target/log/$$2.out | cut -c -400 | head -n 20 | sed 's/^/    /' ;; \
-    'rt: '*) echo "$$line" ;; \
-    esac; done >&2
+@echo "proving $(2) and what it rests on: some minutes the first time, on two cores, and seconds where nothing changed" >&2
+@mkdir -p target/bin target/staticlib && cd crates/$(2) && log=$$(mktemp) && if rt $(1) < /dev/null > $$log 2>&1; then \
+    grep '^logic=' $$log | tail -n 1 >&2; rm $$log; if test $(1) = lib; then cp out/lib$(2).a ../../target/staticlib/; else cp out/$(2) ../../target/bin/; fi; \
+    else grep -v '^statements\|^library\|^logic /\|: proved$$' $$log | cut -c -400 | head -n 40 | sed 's/^/    /' >&2; rm $$log; false; fi
 endef
 
 # Runs the proved program on a school's day.
 show:
-	$(call prove,shelf)
+	$(call prove,run,shelf)
 	@target/bin/shelf < reference/data/school.in
 
-# The gate: layout, the second implementation's own tests and its stored rows, the stored pictures; the names in documents and comments,
-# what must be believed, and what is opened where; then every proof from nothing, every must-fail edit and every program, and why each edit
-# was refused; then, over what was just proved, the calls from C and from Rust, and the program where reads and writes fail. The last line
-# is that of rt ci.
-# Crates and edits are checked in batches, each of which waits for its slowest: batches of six keep two cores at work. A check unpacks some
-# 200 MB of small files: in memory, where it has 8 GB for them and programs may run from there. The recipe says make and not its variable,
-# since a dry run, make -n, runs a line that has the variable.
-scratch = $(shell awk '$$2 == "/dev/shm" && $$4 !~ /noexec/' /proc/mounts | grep -q . && df -k --output=avail /dev/shm \
-    | awk 'NR == 2 && $$1 > 8000000 { print "/dev/shm" }')
+# The gate: the second implementation's own tests and its stored rows, the stored pictures; the names in documents and comments, what must be
+# believed, and what is opened where; then every proof, every must-fail edit and every program, with the layout of each file, and why each edit
+# was refused; then the calls from C and from Rust, and the program where reads and writes fail. The last line is that of rt ci. An edit that
+# could not be tried is no refusal: `rt ci` only counts it, and here it fails.
 test: reference compared
-	@rt fmt --check
 	@tests/names
 	@tests/believed
 	@tests/seams
-	@log=$$(mktemp) && RT_JOBS=6 TMPDIR=$(or $(TMPDIR),$(scratch),/tmp) rt ci | tee $$log && tests/edits && make bindings failures \
-	    && tail -n 1 $$log && rm $$log
+	@log=$$(mktemp) && rt ci | tee $$log && if grep '^rt: ok.*, [0-9][0-9]* bad' $$log; then false; fi && tests/edits $$log \
+	    && make bindings failures && tail -n 1 $$log && rm $$log
 
 reference:
 	@cargo test --offline --release --quiet --manifest-path reference/Cargo.toml
@@ -66,14 +58,13 @@ picture:
 ROWS ?= 200000
 SEED ?=
 fuzz:
-	$(call prove,shelf)
+	$(call prove,run,shelf)
 	@echo "comparing with the second implementation on at least $(ROWS) fresh rows" >&2
 	@cargo run --offline --release --quiet --manifest-path compare/Cargo.toml -- target/bin/shelf $(ROWS) $(SEED)
 
 # The proved calls as a library for other languages.
 archive:
-	$(call prove,gelmush)
-	@rt staticlib gelmush > target/log/staticlib.out 2>&1 || (tail -n 20 target/log/staticlib.out >&2 && false)
+	$(call prove,lib,gelmush)
 
 # The exported calls: case 1 from C, held to its stored rows; random calls from C and from Rust, held to the second implementation; and the
 # README's program in Rust.
@@ -83,8 +74,9 @@ bindings: archive
 	@target/case1 | diff bindings/c/case1.out -
 	@cargo test --offline --release --quiet --manifest-path bindings/rust/Cargo.toml
 
-# The program where reads and writes fail, wait or come in parts. It has to be built: rt check shelf, or rt ci.
+# The program where reads and writes fail, wait or come in parts.
 failures:
+	$(call prove,run,shelf)
 	@cargo test --offline --release --quiet --manifest-path compare/Cargo.toml --test failures -- --ignored
 
 # The calls measured beside the second implementation and the published procedure: the tables of docs/PERFORMANCE.md, and its plots anew.
@@ -94,6 +86,6 @@ bench: archive
 
 # Instructions that four beacons on the same 32 requests cost, first at 15 time units, then at 1,000 (valgrind's callgrind).
 cost:
-	$(call prove,demo_cost)
+	$(call prove,run,demo_cost)
 	@out=$$(mktemp -d) && valgrind -q --tool=callgrind --callgrind-out-file=$$out/cg --zero-before='demo_cost::four_beacons' \
 	    --dump-after='demo_cost::four_beacons' target/bin/demo_cost > /dev/null && grep -h '^summary' $$out/cg.1 $$out/cg.2 && rm -r $$out
