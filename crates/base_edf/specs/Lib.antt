@@ -3,5 +3,3 @@ pub mod Edf
 pub mod Converse
 pub mod Necessity
 pub mod Greedy
-pub mod Periodic
-pub mod Share

@@ -8,8 +8,9 @@ use Rattle.spec_lists.specs.Lists.{sum_of, span}
 use Rattle.base_lists.specs.All.{all_map}
 use Rattle.base_lists.specs.Sums.{sum_ext, sum_same}
 use Rattle.base_edf.specs.Time.{due}
-use Rattle.base_edf.specs.Edf.{Source, source, rem, left, gone, next, dem, Room, Greedy, NoMiss, no_miss, room_next, greedy_total}
-use Rattle.base_edf.specs.Converse.{room_back}
+use Rattle.base_edf.specs.Edf.{Source, source, rem, left, gone, next, dem, Room, Greedy, NoMiss}
+use Rattle.base_edf.proofs.Edf.{no_miss, room_next, greedy_total}
+use Rattle.base_edf.proofs.Converse.{room_back}
 use Rattle.spec_model.specs.Entries.{is_piece, asks}
 use Rattle.spec_model.specs.declared.Entry.{Entry}
 use Rattle.spec_model.specs.declared.Frame.{Frame}

@@ -16,7 +16,8 @@ use Rattle.base_lists.specs.Sums.{sum_same, sum_le, sum_add, sum_zero, each_in_s
 use Rattle.base_lists.specs.Picked.{each_picked, picked_one}
 use Rattle.base_edf.specs.Time.{due_in_lem, due_out, span_le, span_agree, span_join, span_zero, span_ones, span_sum, span_parts}
 use Rattle.base_edf.specs.Edf.{source}
-use Rattle.base_edf.specs.Necessity.{Fed, fed_room, fed_gone}
+use Rattle.base_edf.specs.Necessity.{Fed}
+use Rattle.base_edf.proofs.Necessity.{fed_room, fed_gone}
 use Rattle.spec_model.specs.Frames.{slots_in, header_in, room_in, part_of}
 use Rattle.spec_model.specs.Entries.{is_named, is_piece, asks}
 use Rattle.spec_model.specs.declared.Frame.{Frame}

@@ -9,7 +9,8 @@ use Rattle.spec_lists.specs.All.{All, stop}
 use Rattle.base_lists.specs.All.{head, all_map, all_zip, all_both, all_unmap, all_kept}
 use Rattle.base_edf.specs.Time.{span_ext}
 use Rattle.base_edf.specs.Edf.{rem, left, next}
-use Rattle.base_edf.specs.Necessity.{Fed, fed_gone, fed_step}
+use Rattle.base_edf.specs.Necessity.{Fed}
+use Rattle.base_edf.proofs.Necessity.{fed_gone, fed_step}
 use Rattle.spec_model.specs.Frames.{slots_in, header_in, room_in, part_of}
 use Rattle.spec_model.specs.Entries.{is_held, asks}
 use Rattle.spec_model.specs.declared.Frame.{Frame}

@@ -17,7 +17,7 @@ use Rattle.base_lists.specs.All.{all_keep, all_kept, all_sort, all_sorted, all_a
 use Rattle.base_lists.specs.Sums.{sum_ext, sum_le, sum_add, sum_keep, sum_sort, sum_append, sum_concat, sum_zero}
 use Rattle.base_edf.specs.Time.{due, due_in_lem, due_out, due_le, span_ones}
 use Rattle.base_edf.specs.Edf.{Source, source, later, dem}
-use Rattle.base_edf.specs.Periodic.{periodic_room}
+use Rattle.base_edf.proofs.Periodic.{periodic_room}
 use Rattle.spec_model.specs.Frames.{slots_in, header_in, room_in, part_of}
 use Rattle.spec_model.specs.Names.{same}
 use Rattle.spec_model.specs.Entries.{is_named, is_kind, is_piece, asks}

@@ -11,9 +11,10 @@ use Rattle.base_lists.specs.All.{all_map, all_zip}
 use Rattle.base_lists.specs.Sums.{sum_le, sum_map}
 use Rattle.base_lists.specs.Picked.{picked_rest}
 use Rattle.base_edf.specs.Time.{due, due_zero}
-use Rattle.base_edf.specs.Edf.{Source, source, rem, left, next, dem, Greedy, Room, NoMiss, no_miss, room_next}
-use Rattle.base_edf.specs.Greedy.{idle_greedy, slot_greedy}
-use Rattle.base_edf.specs.Periodic.{waiting_dem}
+use Rattle.base_edf.specs.Edf.{Source, source, rem, left, next, dem, Greedy, Room, NoMiss}
+use Rattle.base_edf.proofs.Edf.{no_miss, room_next}
+use Rattle.base_edf.proofs.Greedy.{idle_greedy, slot_greedy}
+use Rattle.base_edf.proofs.Periodic.{waiting_dem}
 use Rattle.spec_rules.specs.Slots.{Job, name_of, is_ready, choose, Slot, slot_of, has_slot, charge}
 use Rattle.law_slots.specs.Choice.{Keys, Choice, idle, takes, chooses, same_self, named_apart, ready_both, ready_only, got, charge_need}
 use Rattle.law_slots.specs.Choice.{charge_release, charge_due}

@@ -14,7 +14,7 @@ use Rattle.spec_lists.specs.All.{All}
 use Rattle.base_lists.specs.All.{all_map, all_zip, all_of}
 use Rattle.base_lists.specs.Tests.{cond_le}
 use Rattle.base_lists.specs.Sums.{sum_ext, sum_same, sum_le, sum_add, sum_zero, sum_tight}
-use Rattle.base_edf.specs.Share.{shares_fit}
+use Rattle.base_edf.proofs.Share.{shares_fit}
 use Rattle.spec_model.specs.Entries.{is_kind, is_piece, asks}
 use Rattle.spec_model.specs.declared.Entry.{Entry}
 use Rattle.spec_model.specs.Frames.{slots_in, header_in, room_in}

@@ -9,8 +9,10 @@ use Rattle.base_lists.specs.All.{head, tail, all_map, all_zip, all_keep, all_kep
 use Rattle.base_lists.specs.Sums.{sum_zero, sum_keep, sum_sort}
 use Rattle.base_lists.specs.Sorted.{Sorted, none, first}
 use Rattle.base_edf.specs.Time.{due}
-use Rattle.base_edf.specs.Edf.{Source, source, Greedy, greedy_total}
-use Rattle.base_edf.specs.Greedy.{Rising, flat, rise, Takes, none as nobody, take, order_greedy}
+use Rattle.base_edf.specs.Edf.{Source, source, Greedy}
+use Rattle.base_edf.proofs.Edf.{greedy_total}
+use Rattle.base_edf.specs.Greedy.{Rising, flat, rise, Takes, none as nobody, take}
+use Rattle.base_edf.proofs.Greedy.{order_greedy}
 use Rattle.spec_model.specs.Entries.{is_piece}
 use Rattle.spec_model.specs.declared.Entry.{Entry}
 use Rattle.spec_model.specs.Names.{same}
