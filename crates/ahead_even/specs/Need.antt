@@ -12,7 +12,7 @@ use Rattle.spec_model.specs.Frames.{room_in}
 use Rattle.spec_rules.specs.Share.{load, load_of}
 use Rattle.spec_rules.specs.WellFormed.{Tidy}
 use Rattle.law_model.specs.Loads.{load_of_free, load_of_most}
-use Rattle.law_steps.specs.Places.{load_places}
+use Rattle.law_steps.proofs.Places.{load_places}
 use Rattle.law_ahead.specs.Tables.{tidy_together}
 use Rattle.law_ahead.specs.KeepsUp.{keeps_up_ahead}
 use Rattle.law_ahead.specs.Even.{evenly, even_ahead}

@@ -9,7 +9,8 @@ use Rattle.spec_model.specs.declared.Entry.{Entry}
 use Rattle.spec_model.specs.Tables.{places}
 use Rattle.spec_rules.specs.Share.{load_of}
 use Rattle.law_model.specs.Loads.{load_of_free}
-use Rattle.law_steps.specs.Ranks.{rank, rank_free}
+use Rattle.law_steps.specs.Ranks.{rank}
+use Rattle.law_steps.proofs.Ranks.{rank_free}
 use Rattle.table_entry.specs.Amounts.{owed_to}
 use Rattle.ahead_figures.specs.Figures.{never, end_of, life_of, begin_of, period_of, figures_of}
 use Rattle.ahead_figures.specs.declared.Figures.{Figures}

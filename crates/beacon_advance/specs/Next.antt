@@ -15,9 +15,9 @@ use Rattle.spec_rules.specs.Share.{Grant, slots_for, headroom, step_b, step_c}
 use Rattle.spec_rules.specs.Ahead.{step_f}
 use Rattle.spec_rules.specs.Calls.{advanced}
 use Rattle.spec_rules.specs.WellFormed.{Tidy}
-use Rattle.law_steps.specs.Settled.{after_free}
-use Rattle.law_steps.specs.Extras.{extra_le}
-use Rattle.law_steps.specs.Closed.{at_places, had_most}
+use Rattle.law_steps.proofs.Settled.{after_free}
+use Rattle.law_steps.proofs.Extras.{extra_le}
+use Rattle.law_steps.proofs.Closed.{at_places, had_most}
 use Rattle.table_queue.specs.Zips.{zip, zip_map}
 use Rattle.table_queue.specs.Queues.{Used}
 use Rattle.beacon_share.specs.Shares.{granted, among, sharing_of, shares_of, grant_of, grant_found, grants_right}

@@ -13,11 +13,12 @@ use Rattle.spec_model.specs.declared.Table.{Table}
 use Rattle.spec_rules.specs.Share.{slots_for, step_b, remains, share_of, share_among, everyone, need_with, extras_pass}
 use Rattle.spec_rules.specs.WellFormed.{Held, Tidy, WellFormed}
 use Rattle.law_model.specs.Frames.{most_slots, frame_some, frame_most}
-use Rattle.law_steps.specs.Held.{Fraction, Piece, held_is, held_kinds, piece_other}
-use Rattle.law_steps.specs.Settled.{headroom_fraction}
-use Rattle.law_steps.specs.Places.{tidy_held}
-use Rattle.law_steps.specs.Extras.{among_within, all_take_part}
-use Rattle.law_steps.specs.Closed.{at_places, among_held}
+use Rattle.law_steps.specs.Held.{Fraction, Piece}
+use Rattle.law_steps.proofs.Held.{held_is, held_kinds, piece_other}
+use Rattle.law_steps.proofs.Settled.{headroom_fraction}
+use Rattle.law_steps.proofs.Places.{tidy_held}
+use Rattle.law_steps.proofs.Extras.{among_within, all_take_part}
+use Rattle.law_steps.proofs.Closed.{at_places, among_held}
 use Rattle.law_ahead.specs.Timely.{loads_now}
 use Rattle.law_ahead.specs.Tables.{formed_together, formed_fits}
 use Rattle.law_interval.specs.Jobs.{kinds_apart}

@@ -22,8 +22,8 @@ use Rattle.spec_rules.specs.Share.{Grant, job_count, step_b, step_c}
 use Rattle.spec_rules.specs.Slots.{Job, jobs_from, jobs_of, job_need, job_length, jobs, tie_order, slots_from, runs_from}
 use Rattle.spec_rules.specs.Calls.{plan_of}
 use Rattle.spec_rules.specs.WellFormed.{Tidy}
-use Rattle.law_steps.specs.Places.{tidy_held}
-use Rattle.law_steps.specs.Closed.{slots_most}
+use Rattle.law_steps.proofs.Places.{tidy_held}
+use Rattle.law_steps.proofs.Closed.{slots_most}
 use Rattle.law_ahead.specs.Tables.{tidy_together}
 use Rattle.law_model.specs.Frames.{room_less}
 use Rattle.law_interval.specs.Jobs.{tie_sum, all_tie, jobs_keys}

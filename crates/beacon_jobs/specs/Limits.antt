@@ -14,10 +14,11 @@ use Rattle.spec_rules.specs.Share.{capacity, headroom}
 use Rattle.spec_rules.specs.Slots.{job_length}
 use Rattle.spec_rules.specs.WellFormed.{Tidy}
 use Rattle.law_model.specs.Frames.{room_most, frame_some}
-use Rattle.law_steps.specs.Held.{Fraction, Piece, not_fraction}
-use Rattle.law_steps.specs.Extras.{extra_le}
-use Rattle.law_steps.specs.Settled.{headroom_fraction, headroom_whole, headroom_transfer}
-use Rattle.law_steps.specs.Closed.{takes_owed, takes_most, slots_most, by_kind}
+use Rattle.law_steps.specs.Held.{Fraction, Piece}
+use Rattle.law_steps.proofs.Held.{not_fraction}
+use Rattle.law_steps.proofs.Extras.{extra_le}
+use Rattle.law_steps.proofs.Settled.{headroom_fraction, headroom_whole, headroom_transfer}
+use Rattle.law_steps.proofs.Closed.{takes_owed, takes_most, slots_most, by_kind}
 use Rattle.beacon_share.specs.Shares.{among, sharing_of, grant_of}
 use Rattle.beacon_share.specs.declared.Sharing.{Sharing}
 use Rattle.beacon_plan.specs.Rows.{Length}

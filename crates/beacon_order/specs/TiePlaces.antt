@@ -17,10 +17,11 @@ use Rattle.spec_model.specs.declared.Table.{Table}
 use Rattle.spec_rules.specs.Slots.{tie_order}
 use Rattle.spec_rules.specs.WellFormed.{Held, Once, Tidy}
 use Rattle.law_model.specs.Names.{rank_some}
-use Rattle.law_steps.specs.Held.{held_is}
-use Rattle.law_steps.specs.Grants.{once_tail, once_apart}
-use Rattle.law_steps.specs.Places.{tidy_held}
-use Rattle.law_steps.specs.Ranks.{rank, rank_most, held_rank, rank_free}
+use Rattle.law_steps.proofs.Held.{held_is}
+use Rattle.law_steps.proofs.Grants.{once_tail, once_apart}
+use Rattle.law_steps.proofs.Places.{tidy_held}
+use Rattle.law_steps.specs.Ranks.{rank, rank_most}
+use Rattle.law_steps.proofs.Ranks.{held_rank, rank_free}
 use Rattle.beacon_order.specs.Ties.{ties, sort_ties, ties_le}
 use Rattle.beacon_order.specs.Sorts.{Pairs, end, with, pairs_of, sort_ext, sort_map, keep_ext, keep_front, keep_map}
 use Rattle.beacon_order.specs.Listed.{places_from, is_taken, taken_from, by_rank, listed}

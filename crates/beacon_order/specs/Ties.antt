@@ -14,8 +14,10 @@ use Rattle.spec_rules.specs.Share.{sooner, order}
 use Rattle.spec_rules.specs.Slots.{lower_named, tie_order}
 use Rattle.spec_rules.specs.WellFormed.{Held}
 use Rattle.law_model.specs.Names.{rank_room, lower_rank, rank_lower, same_false}
-use Rattle.law_steps.specs.Held.{Fraction, Piece, held_kinds, piece_of_lem, not_fraction, fraction_not}
-use Rattle.law_steps.specs.Ranks.{rank, held_ranked, rank_sooner, rank_name}
+use Rattle.law_steps.specs.Held.{Fraction, Piece}
+use Rattle.law_steps.proofs.Held.{held_kinds, piece_of_lem, not_fraction, fraction_not}
+use Rattle.law_steps.specs.Ranks.{rank}
+use Rattle.law_steps.proofs.Ranks.{held_ranked, rank_sooner, rank_name}
 
 abbrev pub ties : Entry → Entry → Bool
 ties e f = cond (is_kind 1 e) (cond (is_kind 1 f) (lower_named e f) true) (cond (is_kind 1 f) false (sooner e f))

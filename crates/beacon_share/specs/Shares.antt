@@ -19,12 +19,15 @@ use Rattle.spec_model.specs.declared.Table.{Table}
 use Rattle.spec_rules.specs.Share.{capacity, step_b, remains, headroom, job_count, weight, extra, extras_pass}
 use Rattle.spec_rules.specs.WellFormed.{Held, Tidy}
 use Rattle.law_model.specs.Names.{in_range_some}
-use Rattle.law_steps.specs.Held.{Fraction, Piece, held_is, not_fraction}
+use Rattle.law_steps.specs.Held.{Fraction, Piece}
+use Rattle.law_steps.proofs.Held.{held_is, not_fraction}
 use Rattle.law_steps.specs.StepB.{step_b_of}
-use Rattle.law_steps.specs.Extras.{step_c_of, extra_le}
-use Rattle.law_steps.specs.Places.{remains_places}
-use Rattle.law_steps.specs.Settled.{headroom_fraction, headroom_whole, headroom_transfer}
-use Rattle.law_steps.specs.Closed.{takes, takes_owed, takes_held, by_kind, share_in, weight_places, extra_held}
+use Rattle.law_steps.specs.Extras.{step_c_of}
+use Rattle.law_steps.proofs.Extras.{extra_le}
+use Rattle.law_steps.proofs.Places.{remains_places}
+use Rattle.law_steps.proofs.Settled.{headroom_fraction, headroom_whole, headroom_transfer}
+use Rattle.law_steps.specs.Closed.{takes, share_in}
+use Rattle.law_steps.proofs.Closed.{takes_owed, takes_held, by_kind, weight_places, extra_held}
 use Rattle.table_entry.specs.Amounts.{limit_of, jobs_in}
 use Rattle.beacon_share.specs.declared.Granted.{Granted}
 use Rattle.table_queue.specs.declared.Queue.{Queue}

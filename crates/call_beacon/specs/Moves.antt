@@ -16,7 +16,7 @@ use Rattle.spec_rules.specs.Calls.{plan_of, advanced, beacon}
 use Rattle.spec_rules.specs.Records.{words_of, plan_words}
 use Rattle.spec_rules.specs.WellFormed.{Tidy}
 use Rattle.law_slots.specs.Events.{runs_idle}
-use Rattle.law_steps.specs.Settled.{after_free}
+use Rattle.law_steps.proofs.Settled.{after_free}
 use Rattle.beacon_share.specs.declared.Shares.{Shares}
 use Rattle.table_queue.specs.Queues.{Used}
 use Rattle.beacon_share.specs.Shares.{shares_of}

@@ -27,9 +27,11 @@ use Rattle.spec_rules.specs.Share.{load_of, load}
 use Rattle.spec_rules.specs.Ahead.{fits_ahead}
 use Rattle.spec_rules.specs.Calls.{holds, offer_answer, placed, offered}
 use Rattle.spec_rules.specs.WellFormed.{WellFormed, Tidy}
-use Rattle.law_steps.specs.Refusals.{refused_offer}
-use Rattle.law_steps.specs.Offers.{Numbered, refusal_none, none_refusal, refusal_stops, fields_numbered, offer_checks_but, checks_passed, is_full}
-use Rattle.law_steps.specs.Offers.{has_time, offer_refused, offer_passed}
+use Rattle.law_steps.proofs.Refusals.{refused_offer}
+use Rattle.law_steps.specs.Offers.{Numbered, offer_checks_but, is_full}
+use Rattle.law_steps.proofs.Offers.{refusal_none, none_refusal, refusal_stops, fields_numbered, checks_passed}
+use Rattle.law_steps.specs.Offers.{has_time}
+use Rattle.law_steps.proofs.Offers.{offer_refused, offer_passed}
 use Rattle.law_ahead.specs.KeepsUp.{keeps_up_ahead}
 use Rattle.law_ahead.specs.Tables.{tidy_together, tidy_some}
 use Rattle.law_ahead.specs.Fits.{ahead_once, ahead_plain}

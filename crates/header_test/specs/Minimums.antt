@@ -15,8 +15,9 @@ use Rattle.spec_model.specs.declared.Table.{Table}
 use Rattle.spec_rules.specs.Header.{header_test}
 use Rattle.spec_rules.specs.WellFormed.{Held, Tidy}
 use Rattle.law_model.specs.Frames.{most_slots, frame_some, frame_most}
-use Rattle.law_steps.specs.Held.{Fraction, held_kinds, piece_other}
-use Rattle.law_steps.specs.Places.{tidy_held}
+use Rattle.law_steps.specs.Held.{Fraction}
+use Rattle.law_steps.proofs.Held.{held_kinds, piece_other}
+use Rattle.law_steps.proofs.Places.{tidy_held}
 use Rattle.table_queue.specs.Queues.{Used}
 use Rattle.header_test.specs.Due.{Tells, parts_room, Summed, PartsIn, added, Passes}
 use Rattle.header_test.specs.Sums.{SumsOf, sums_none, sums_more, sums_free, sums_all, sums_put, sums_held, sums_small}

@@ -17,8 +17,10 @@ use Rattle.spec_model.specs.declared.Entry.{Entry}
 use Rattle.spec_model.specs.declared.Frame.{Frame}
 use Rattle.spec_rules.specs.Header.{due_of, due_by, header_test}
 use Rattle.spec_rules.specs.WellFormed.{Held}
-use Rattle.law_steps.specs.Held.{Fraction, Piece, held_kinds, piece_other}
-use Rattle.law_steps.specs.Header.{RoomBy, test_says, says_test}
+use Rattle.law_steps.specs.Held.{Fraction, Piece}
+use Rattle.law_steps.proofs.Held.{held_kinds, piece_other}
+use Rattle.law_steps.specs.Header.{RoomBy}
+use Rattle.law_steps.proofs.Header.{test_says, says_test}
 use Rattle.header_test.specs.Due.{Tells, parts_room, jobs_by, due_to, RoomAt, Passes}
 use Rattle.header_test.specs.Sums.{need_at, SumsOf}
 

@@ -16,7 +16,7 @@ use Rattle.spec_model.specs.declared.Entry.{Entry}
 use Rattle.spec_model.specs.declared.Frame.{Frame}
 use Rattle.spec_rules.specs.WellFormed.{Held}
 use Rattle.law_model.specs.Frames.{most_slots}
-use Rattle.law_steps.specs.Places.{held_sum}
+use Rattle.law_steps.proofs.Places.{held_sum}
 use Rattle.header_test.specs.Due.{parts_room, most_needs, Summed, PartsIn, added}
 
 -- what an entry, a job of which needs n, adds to the sum of m parts

@@ -22,7 +22,8 @@ use Rattle.spec_rules.specs.Ahead.{standing, settled, misses}
 use Rattle.spec_rules.specs.WellFormed.{Tidy}
 use Rattle.law_model.specs.Names.{lower_nobody}
 use Rattle.law_steps.specs.StepB.{step_b_of}
-use Rattle.law_steps.specs.Closed.{takes, takes_owed, takes_held, at_places}
+use Rattle.law_steps.specs.Closed.{takes}
+use Rattle.law_steps.proofs.Closed.{takes_owed, takes_held, at_places}
 use Rattle.law_ahead.specs.KeepsUp.{keeps_up_ahead}
 use Rattle.law_ahead.specs.Loop.{looked_past, past_tidy, ahead_misses, ahead_turn}
 use Rattle.law_ahead.specs.Served.{served, Lasts, before_places, takes_more, served_more}

@@ -18,8 +18,10 @@ use Rattle.spec_model.specs.declared.Frame.{Frame}
 use Rattle.spec_model.specs.Frames.{room_in}
 use Rattle.spec_rules.specs.Share.{load}
 use Rattle.spec_rules.specs.WellFormed.{Held}
-use Rattle.law_steps.specs.Held.{Piece, held_kinds, piece_of_lem}
-use Rattle.law_steps.specs.Sources.{source_of, load_at, load_falls, fraction_source, piece_source}
+use Rattle.law_steps.specs.Held.{Piece}
+use Rattle.law_steps.proofs.Held.{held_kinds, piece_of_lem}
+use Rattle.law_steps.specs.Sources.{source_of, load_at}
+use Rattle.law_steps.proofs.Sources.{load_falls, fraction_source, piece_source}
 use Rattle.law_ahead.specs.Moved.{Together}
 use Rattle.law_ahead.specs.Timely.{loads_at, loads_now}
 use Rattle.law_ahead.specs.KeepsUp.{keeps_up_ahead, timely_ahead}

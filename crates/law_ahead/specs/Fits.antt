@@ -20,8 +20,10 @@ use Rattle.spec_rules.specs.Share.{Grant, load_of, load, slots_for, overfull, st
 use Rattle.spec_rules.specs.Ahead.{step_f, misses, goes_well, fits_ahead}
 use Rattle.law_model.specs.Frames.{room_most}
 use Rattle.law_model.specs.Loads.{load_of_fraction, load_of_none}
-use Rattle.law_steps.specs.Header.{RoomBy, held_whole, no_header, test_says, says_test, test_fewer}
-use Rattle.law_steps.specs.Settled.{after, after_request}
+use Rattle.law_steps.specs.Header.{RoomBy}
+use Rattle.law_steps.proofs.Header.{held_whole, no_header, test_says, says_test, test_fewer}
+use Rattle.law_steps.specs.Settled.{after}
+use Rattle.law_steps.proofs.Settled.{after_request}
 use Rattle.law_ahead.specs.Moved.{Together, life_of, step_of, moved, MayGive}
 use Rattle.law_ahead.specs.Timely.{Timely, loads_now, timely_on}
 use Rattle.law_ahead.specs.KeepsUp.{keeps_up, keeps_up_ahead, ahead_timely, timely_ahead}

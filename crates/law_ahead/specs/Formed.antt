@@ -25,9 +25,10 @@ use Rattle.spec_rules.specs.WellFormed.{Held, WellFormed, Tidy}
 use Rattle.spec_rules.specs.Settings.{opened, Succeeds, frame_of}
 use Rattle.spec_rules.specs.Records.{plan_words}
 use Rattle.law_model.specs.Frames.{opened_none}
-use Rattle.law_steps.specs.Grants.{once_cons}
-use Rattle.law_steps.specs.Held.{held_is, entry_held}
-use Rattle.law_steps.specs.Offers.{offer_checks_but, Passed, checks_passed, is_full, has_time, answer_fits, answer_passed}
+use Rattle.law_steps.proofs.Grants.{once_cons}
+use Rattle.law_steps.proofs.Held.{held_is, entry_held}
+use Rattle.law_steps.specs.Offers.{offer_checks_but, Passed, is_full, has_time}
+use Rattle.law_steps.proofs.Offers.{checks_passed, answer_fits, answer_passed}
 use Rattle.law_ahead.specs.Moved.{Together, moved, own_extras}
 use Rattle.law_ahead.specs.Fits.{Fits, fits_on, ahead_fits, ahead_none}
 use Rattle.law_ahead.specs.Tables.{formed_together, formed_fits, tidy_formed, picked_together, picked_fits, picked_ahead, fewer_fits}

@@ -14,8 +14,9 @@ use Rattle.spec_model.specs.Frames.{room_in}
 use Rattle.spec_rules.specs.Share.{load, overfull, step_b}
 use Rattle.spec_rules.specs.Ahead.{misses}
 use Rattle.spec_rules.specs.WellFormed.{Held}
-use Rattle.law_steps.specs.Held.{held_kinds, piece_of_lem, fraction_not}
-use Rattle.law_steps.specs.Sources.{source_of, fraction_source, source_rem, source_left}
+use Rattle.law_steps.proofs.Held.{held_kinds, piece_of_lem, fraction_not}
+use Rattle.law_steps.specs.Sources.{source_of}
+use Rattle.law_steps.proofs.Sources.{fraction_source, source_rem, source_left}
 use Rattle.law_steps.specs.StepB.{step_b_of}
 use Rattle.law_ahead.specs.Moved.{Together, life_of, moved, no_extras, moved_together, moved_life}
 use Rattle.law_ahead.specs.Timely.{Timely, piece_of, loads_now, timely_meets, timely_on, timely_back}

@@ -21,12 +21,15 @@ use Rattle.spec_rules.specs.Share.{slots_for, load, overfull, capacity, step_b, 
 use Rattle.spec_rules.specs.Ahead.{passed, renewed, settled, step_f, misses}
 use Rattle.spec_rules.specs.WellFormed.{Held, Tidy}
 use Rattle.law_model.specs.Loads.{load_of_standing}
-use Rattle.law_steps.specs.Grants.{slots_none}
-use Rattle.law_steps.specs.Held.{Fraction, Piece, held_kinds, piece_of_lem, not_fraction, fraction_not}
-use Rattle.law_steps.specs.Settled.{after, after_free}
+use Rattle.law_steps.proofs.Grants.{slots_none}
+use Rattle.law_steps.specs.Held.{Fraction, Piece}
+use Rattle.law_steps.proofs.Held.{held_kinds, piece_of_lem, not_fraction, fraction_not}
+use Rattle.law_steps.specs.Settled.{after}
+use Rattle.law_steps.proofs.Settled.{after_free}
 use Rattle.law_steps.specs.StepB.{step_b_of}
-use Rattle.law_steps.specs.Places.{tidy_held}
-use Rattle.law_steps.specs.Closed.{takes, takes_owed, takes_most, takes_held, at_places}
+use Rattle.law_steps.proofs.Places.{tidy_held}
+use Rattle.law_steps.specs.Closed.{takes}
+use Rattle.law_steps.proofs.Closed.{takes_owed, takes_most, takes_held, at_places}
 use Rattle.law_ahead.specs.KeepsUp.{keeps_up_ahead}
 use Rattle.law_ahead.specs.Loop.{looked_past, past_tidy, ahead_turn}
 use Rattle.law_ahead.specs.Served.{later, served, Lasts, standing_same, served_more}

@@ -16,7 +16,7 @@ use Rattle.spec_model.specs.Tables.{held_of}
 use Rattle.spec_rules.specs.Share.{overfull, step_b}
 use Rattle.spec_rules.specs.Ahead.{misses}
 use Rattle.spec_rules.specs.WellFormed.{Held, Tidy}
-use Rattle.law_steps.specs.Places.{tidy_held}
+use Rattle.law_steps.proofs.Places.{tidy_held}
 use Rattle.law_ahead.specs.Moved.{moved, life_of, no_extras, moved_most}
 use Rattle.law_ahead.specs.KeepsUp.{keeps_up, keeps_up_ahead}
 use Rattle.law_ahead.specs.Tables.{tidy_together, stepped, stepped_held, stepped_tidy}

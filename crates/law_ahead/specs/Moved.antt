@@ -19,11 +19,12 @@ use Rattle.spec_model.specs.declared.Name.{Name}
 use Rattle.spec_rules.specs.Share.{Grant, slots_for, step_b, step_c}
 use Rattle.spec_rules.specs.Ahead.{step_f}
 use Rattle.spec_rules.specs.WellFormed.{Held, Once}
-use Rattle.law_steps.specs.Grants.{slots_none}
-use Rattle.law_steps.specs.Held.{held_is}
-use Rattle.law_steps.specs.Settled.{after, Granted, Stays, settled_held, after_life}
-use Rattle.law_steps.specs.StepB.{step_b_within}
-use Rattle.law_steps.specs.Extras.{step_c_within, step_c_last}
+use Rattle.law_steps.proofs.Grants.{slots_none}
+use Rattle.law_steps.proofs.Held.{held_is}
+use Rattle.law_steps.specs.Settled.{after, Granted, Stays}
+use Rattle.law_steps.proofs.Settled.{settled_held, after_life}
+use Rattle.law_steps.proofs.StepB.{step_b_within}
+use Rattle.law_steps.proofs.Extras.{step_c_within, step_c_last}
 
 -- entries that can stand in a table together
 pub record Together (F : Frame) (es : List Entry) : Type 0 where

@@ -19,12 +19,14 @@ use Rattle.spec_model.specs.Tables.{held_of}
 use Rattle.spec_rules.specs.Share.{sooner}
 use Rattle.spec_rules.specs.Ahead.{standing}
 use Rattle.spec_rules.specs.WellFormed.{Once, Tidy}
-use Rattle.law_steps.specs.Grants.{once_keep}
-use Rattle.law_steps.specs.Order.{sooner_trans}
-use Rattle.law_steps.specs.StepB.{turns_of, owed_before, turns_total, turns_closed}
-use Rattle.law_steps.specs.Held.{held_kinds, piece_of_lem}
-use Rattle.law_steps.specs.Places.{tidy_held, held_sum, owed_places}
-use Rattle.law_steps.specs.Closed.{takes, takes_owed, at_places}
+use Rattle.law_steps.proofs.Grants.{once_keep}
+use Rattle.law_steps.proofs.Order.{sooner_trans}
+use Rattle.law_steps.specs.StepB.{turns_of, owed_before}
+use Rattle.law_steps.proofs.StepB.{turns_total, turns_closed}
+use Rattle.law_steps.proofs.Held.{held_kinds, piece_of_lem}
+use Rattle.law_steps.proofs.Places.{tidy_held, held_sum, owed_places}
+use Rattle.law_steps.specs.Closed.{takes}
+use Rattle.law_steps.proofs.Closed.{takes_owed, at_places}
 
 -- ---- those before x together take all that they are owed, or all there is
 module _ (c : ℕ) (es : List Entry) (w : Once es) (x : Entry) where

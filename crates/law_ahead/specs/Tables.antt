@@ -22,11 +22,12 @@ use Rattle.spec_rules.specs.Ahead.{step_f, fits_ahead}
 use Rattle.spec_rules.specs.Calls.{placed}
 use Rattle.spec_rules.specs.WellFormed.{Held, WellFormed, Tidy}
 use Rattle.law_model.specs.Frames.{frame_some, header_less}
-use Rattle.law_steps.specs.Held.{held_is}
-use Rattle.law_steps.specs.Header.{test_fewer}
-use Rattle.law_steps.specs.Settled.{Granted, settled_held, after_free}
+use Rattle.law_steps.proofs.Held.{held_is}
+use Rattle.law_steps.proofs.Header.{test_fewer}
+use Rattle.law_steps.specs.Settled.{Granted}
+use Rattle.law_steps.proofs.Settled.{settled_held, after_free}
 use Rattle.law_steps.specs.Sources.{source_of, load_at}
-use Rattle.law_steps.specs.Places.{tidy_held}
+use Rattle.law_steps.proofs.Places.{tidy_held}
 use Rattle.law_ahead.specs.Moved.{Together, step_of, moved, MayGive, moved_together}
 use Rattle.law_ahead.specs.Timely.{Timely, spare_at}
 use Rattle.law_ahead.specs.Fits.{Fits, ahead_fits, fits_ahead_lem}

@@ -16,8 +16,10 @@ use Rattle.spec_model.specs.declared.Entry.{Entry}
 use Rattle.spec_model.specs.declared.Frame.{Frame}
 use Rattle.spec_model.specs.Frames.{room_in}
 use Rattle.spec_rules.specs.Share.{Grant, load_of, load, slots_for, capacity, step_b}
-use Rattle.law_steps.specs.Sources.{source_of, load_at, free_source, source_next, held_sound, load_free, load_now, load_next}
-use Rattle.law_steps.specs.StepB.{step_b_of, step_b_within, step_b_due}
+use Rattle.law_steps.specs.Sources.{source_of, load_at}
+use Rattle.law_steps.proofs.Sources.{free_source, source_next, held_sound, load_free, load_now, load_next}
+use Rattle.law_steps.specs.StepB.{step_b_of}
+use Rattle.law_steps.proofs.StepB.{step_b_within, step_b_due}
 use Rattle.law_ahead.specs.Moved.{Together, step_of, moved, MayGive, moved_sum}
 
 -- what kind 1 takes of the interval t intervals on, and what it leaves

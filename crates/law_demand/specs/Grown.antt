@@ -15,9 +15,12 @@ use Rattle.spec_model.specs.declared.Entry.{Entry}
 use Rattle.spec_rules.specs.Slots.{Run}
 use Rattle.spec_rules.specs.Ahead.{passed, renewed}
 use Rattle.spec_rules.specs.WellFormed.{Held}
-use Rattle.law_steps.specs.Held.{Fraction, Piece, held_kinds, held_is, piece_of_lem, not_fraction, piece_other}
-use Rattle.law_steps.specs.Settled.{after, Granted, after_last, after_life, after_request}
-use Rattle.law_steps.specs.Settled.{PieceFate, over, anew, on, piece_fate, headroom_whole, headroom_transfer, headroom_fraction}
+use Rattle.law_steps.specs.Held.{Fraction, Piece}
+use Rattle.law_steps.proofs.Held.{held_kinds, held_is, piece_of_lem, not_fraction, piece_other}
+use Rattle.law_steps.specs.Settled.{after, Granted}
+use Rattle.law_steps.proofs.Settled.{after_last, after_life, after_request}
+use Rattle.law_steps.specs.Settled.{PieceFate, over, anew, on}
+use Rattle.law_steps.proofs.Settled.{piece_fate, headroom_whole, headroom_transfer, headroom_fraction}
 use Rattle.spec_demand.specs.Ledger.{Admission, grown, lasts}
 use Rattle.spec_demand.specs.Demand.{slots_of, had, Kept}
 use Rattle.law_demand.specs.Had.{grown_length, grown_last, grown_other, had_old, had_new, had_none}

@@ -27,8 +27,9 @@ use Rattle.spec_rules.specs.Calls.{holds, offer_answer, placed, offered, held_an
 use Rattle.spec_rules.specs.Calls.{plan_of, advanced, refused_beacon, planned_beacon, beacon}
 use Rattle.spec_rules.specs.WellFormed.{Held, WellFormed}
 use Rattle.law_model.specs.Records.{records_back}
-use Rattle.law_steps.specs.Held.{held_is}
-use Rattle.law_steps.specs.Offers.{checks_passed, is_full, answer_passed}
+use Rattle.law_steps.proofs.Held.{held_is}
+use Rattle.law_steps.specs.Offers.{is_full}
+use Rattle.law_steps.proofs.Offers.{checks_passed, answer_passed}
 use Rattle.law_steps.specs.StepB.{step_b_of}
 use Rattle.law_steps.specs.Extras.{step_c_of}
 use Rattle.law_ahead.specs.Moved.{step_of}

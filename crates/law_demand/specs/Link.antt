@@ -9,8 +9,10 @@ use Rattle.spec_model.specs.Answers.{request_of}
 use Rattle.spec_model.specs.declared.Frame.{Frame}
 use Rattle.spec_model.specs.declared.Entry.{Entry}
 use Rattle.spec_model.specs.declared.Request.{Request}
-use Rattle.law_steps.specs.Fields.{Fields, fraction, whole, transfer, fields_of_lem}
-use Rattle.law_steps.specs.Held.{Piece, request_back}
+use Rattle.law_steps.specs.Fields.{Fields, fraction, whole, transfer}
+use Rattle.law_steps.proofs.Fields.{fields_of_lem}
+use Rattle.law_steps.specs.Held.{Piece}
+use Rattle.law_steps.proofs.Held.{request_back}
 use Rattle.spec_demand.specs.Ledger.{Admission, asked_by, begins}
 use Rattle.spec_demand.specs.Demand.{had, Kept}
 use Rattle.law_demand.specs.Had.{had_none}

@@ -21,9 +21,11 @@ use Rattle.spec_rules.specs.Share.{job_count, step_b, step_c}
 use Rattle.spec_rules.specs.Slots.{Run, job_length, job_need, jobs, slots_from, step_d, step_e, gives}
 use Rattle.spec_rules.specs.Calls.{plan_of}
 use Rattle.spec_rules.specs.WellFormed.{Held, WellFormed}
-use Rattle.law_steps.specs.Held.{Piece, piece_of_lem, not_fraction, other_piece}
+use Rattle.law_steps.specs.Held.{Piece}
+use Rattle.law_steps.proofs.Held.{piece_of_lem, not_fraction, other_piece}
 use Rattle.law_steps.specs.Settled.{Granted}
-use Rattle.law_steps.specs.Sources.{source_of, source_rem, source_left}
+use Rattle.law_steps.specs.Sources.{source_of}
+use Rattle.law_steps.proofs.Sources.{source_rem, source_left}
 use Rattle.law_steps.specs.StepB.{step_b_of}
 use Rattle.law_steps.specs.Extras.{step_c_of}
 use Rattle.law_ahead.specs.Moved.{own_extras}

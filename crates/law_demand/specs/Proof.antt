@@ -26,7 +26,8 @@ use Rattle.spec_rules.specs.Calls.{plan_of, advanced, refused_beacon, planned_be
 use Rattle.spec_rules.specs.WellFormed.{WellFormed}
 use Rattle.law_model.specs.Frames.{opened_none}
 use Rattle.law_model.specs.Records.{records_back}
-use Rattle.law_steps.specs.Offers.{offer_checks_but, is_full, has_time, offer_refused, offer_passed, answer_passed}
+use Rattle.law_steps.specs.Offers.{offer_checks_but, is_full, has_time}
+use Rattle.law_steps.proofs.Offers.{offer_refused, offer_passed, answer_passed}
 use Rattle.law_ahead.specs.Tables.{formed_together}
 use Rattle.law_ahead.specs.Formed.{opened_formed, passed_held}
 use Rattle.law_exact.specs.Offer.{offer_served, offer_hopeless}

@@ -11,7 +11,8 @@ use Rattle.spec_model.specs.declared.Entry.{Entry}
 use Rattle.spec_rules.specs.WellFormed.{Held}
 use Rattle.spec_demand.specs.Assignment.{Assignment, assigned}
 use Rattle.law_exact.specs.Entries.{ServesEntry}
-use Rattle.law_steps.specs.Held.{Piece, other_piece}
+use Rattle.law_steps.specs.Held.{Piece}
+use Rattle.law_steps.proofs.Held.{other_piece}
 use Rattle.spec_demand.specs.Ledger.{Admission}
 use Rattle.spec_demand.specs.Demand.{had, Serves}
 use Rattle.law_demand.specs.Had.{had_none}

@@ -27,10 +27,13 @@ use Rattle.spec_rules.specs.Header.{due_of, due_by, header_test}
 use Rattle.spec_rules.specs.WellFormed.{Held, Once}
 use Rattle.law_model.specs.Frames.{room_header}
 use Rattle.law_model.specs.Names.{same_sym}
-use Rattle.law_steps.specs.Held.{Fraction, Piece, held_kinds, piece_of_lem, piece_other, other_piece, not_fraction, fraction_not}
-use Rattle.law_steps.specs.Sources.{source_of, load_at, fraction_source, piece_source, load_none, load_fraction}
+use Rattle.law_steps.specs.Held.{Fraction, Piece}
+use Rattle.law_steps.proofs.Held.{held_kinds, piece_of_lem, piece_other, other_piece, not_fraction, fraction_not}
+use Rattle.law_steps.specs.Sources.{source_of, load_at}
+use Rattle.law_steps.proofs.Sources.{fraction_source, piece_source, load_none, load_fraction}
 use Rattle.law_ahead.specs.Moved.{Together}
-use Rattle.law_steps.specs.Header.{RoomBy, says_test, whole_long}
+use Rattle.law_steps.specs.Header.{RoomBy}
+use Rattle.law_steps.proofs.Header.{says_test, whole_long}
 use Rattle.law_ahead.specs.Timely.{Timely, loads_at}
 use Rattle.law_ahead.specs.Fits.{Fits}
 use Rattle.spec_demand.specs.Assignment.{Assignment, is_to, assigned, LeavesHeader}

@@ -20,9 +20,12 @@ use Rattle.spec_rules.specs.Share.{slots_for, job_count, step_b, step_c}
 use Rattle.spec_rules.specs.Slots.{Slot, job_length, job_need, jobs, slots_from, step_d}
 use Rattle.spec_rules.specs.Ahead.{step_f, fits_ahead}
 use Rattle.spec_rules.specs.WellFormed.{Held}
-use Rattle.law_steps.specs.Held.{Fraction, Piece, held_kinds, held_is, piece_of_lem, piece_other, not_fraction}
-use Rattle.law_steps.specs.Settled.{Granted, FractionFate, ended, ages, fraction_fate, Stays, settled_held}
-use Rattle.law_steps.specs.Sources.{source_of, free_source, fraction_source, source_next, held_sound}
+use Rattle.law_steps.specs.Held.{Fraction, Piece}
+use Rattle.law_steps.proofs.Held.{held_kinds, held_is, piece_of_lem, piece_other, not_fraction}
+use Rattle.law_steps.specs.Settled.{Granted, FractionFate, ended, ages, Stays}
+use Rattle.law_steps.proofs.Settled.{fraction_fate, settled_held}
+use Rattle.law_steps.specs.Sources.{source_of}
+use Rattle.law_steps.proofs.Sources.{free_source, fraction_source, source_next, held_sound}
 use Rattle.law_steps.specs.StepB.{step_b_of}
 use Rattle.law_steps.specs.Extras.{step_c_of}
 use Rattle.law_ahead.specs.Moved.{Together, step_of, moved, own_extras, moved_together, moved_life}

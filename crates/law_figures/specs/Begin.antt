@@ -11,7 +11,7 @@ use Rattle.spec_model.specs.Tables.{places, put_in}
 use Rattle.spec_rules.specs.WellFormed.{Tidy}
 use Rattle.spec_rules.specs.Share.{load_of}
 use Rattle.law_model.specs.Frames.{most_slots}
-use Rattle.law_steps.specs.Closed.{load_most}
+use Rattle.law_steps.proofs.Closed.{load_most}
 use Rattle.table_queue.specs.Queues.{Used}
 use Rattle.ahead_figures.specs.Columns.{Columns, figures_at, columns_of, columns_sized, columns_at}
 use Rattle.law_figures.specs.Shown.{Shown, shown_first}

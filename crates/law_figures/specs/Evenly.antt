@@ -13,7 +13,8 @@ use Rattle.spec_model.specs.Tables.{places}
 use Rattle.spec_rules.specs.WellFormed.{Held, Tidy}
 use Rattle.spec_rules.specs.Share.{load_of}
 use Rattle.law_model.specs.Loads.{load_of_free}
-use Rattle.law_steps.specs.Held.{Fraction, Piece, held_kinds, held_is, piece_of_lem, fraction_not}
+use Rattle.law_steps.specs.Held.{Fraction, Piece}
+use Rattle.law_steps.proofs.Held.{held_kinds, held_is, piece_of_lem, fraction_not}
 use Rattle.table_entry.specs.Amounts.{owed_to}
 use Rattle.law_ahead.specs.Even.{evenly}
 use Rattle.ahead_figures.specs.Columns.{Columns, figures_at}

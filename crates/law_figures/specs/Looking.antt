@@ -15,7 +15,7 @@ use Rattle.spec_rules.specs.Share.{load, overfull, step_b, load_of}
 use Rattle.spec_rules.specs.Ahead.{renewed, settled, misses}
 use Rattle.spec_rules.specs.WellFormed.{Tidy}
 use Rattle.law_model.specs.Loads.{load_of_free, load_of_standing}
-use Rattle.law_steps.specs.Places.{load_places}
+use Rattle.law_steps.proofs.Places.{load_places}
 use Rattle.law_steps.specs.Closed.{takes}
 use Rattle.law_ahead.specs.KeepsUp.{keeps_up_ahead}
 use Rattle.law_ahead.specs.Loop.{ahead_over, ahead_misses}

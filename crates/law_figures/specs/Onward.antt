@@ -25,12 +25,15 @@ use Rattle.spec_rules.specs.Share.{sooner}
 use Rattle.spec_rules.specs.Ahead.{settled}
 use Rattle.spec_rules.specs.WellFormed.{Held, Tidy}
 use Rattle.law_model.specs.Names.{same_refl, same_eq, same_ne, in_range_some}
-use Rattle.law_steps.specs.Held.{held_is}
-use Rattle.law_steps.specs.Order.{by_left, before_sooner}
+use Rattle.law_steps.proofs.Held.{held_is}
+use Rattle.law_steps.specs.Order.{by_left}
+use Rattle.law_steps.proofs.Order.{before_sooner}
 use Rattle.law_steps.specs.StepB.{owed_before}
-use Rattle.law_steps.specs.Places.{held_sum}
-use Rattle.law_steps.specs.Closed.{takes, takes_owed}
-use Rattle.law_steps.specs.Ranks.{rank, rank_sooner, held_ranked, rank_interval, rank_name}
+use Rattle.law_steps.proofs.Places.{held_sum}
+use Rattle.law_steps.specs.Closed.{takes}
+use Rattle.law_steps.proofs.Closed.{takes_owed}
+use Rattle.law_steps.specs.Ranks.{rank, rank_interval}
+use Rattle.law_steps.proofs.Ranks.{rank_sooner, held_ranked, rank_name}
 use Rattle.law_ahead.specs.Served.{later}
 use Rattle.law_ahead.specs.Leap.{event_in, E, ended, later_free}
 use Rattle.law_ahead.specs.Ends.{due_in, Until}

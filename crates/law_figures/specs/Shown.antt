@@ -16,8 +16,10 @@ use Rattle.spec_rules.specs.Ahead.{renewed, settled}
 use Rattle.spec_rules.specs.WellFormed.{Held}
 use Rattle.spec_rules.specs.Share.{load_of}
 use Rattle.law_model.specs.Loads.{load_of_free, load_of_standing}
-use Rattle.law_steps.specs.Held.{Fraction, Piece, held_kinds, held_is, piece_of_lem, fraction_not}
-use Rattle.law_steps.specs.Ranks.{rank, Ranked, held_ranked, rank_most, held_rank, rank_interval, rank_free, rank_left, rank_most_lem}
+use Rattle.law_steps.specs.Held.{Fraction, Piece}
+use Rattle.law_steps.proofs.Held.{held_kinds, held_is, piece_of_lem, fraction_not}
+use Rattle.law_steps.specs.Ranks.{rank, Ranked, rank_most, rank_interval}
+use Rattle.law_steps.proofs.Ranks.{held_ranked, held_rank, rank_free, rank_left, rank_most_lem}
 use Rattle.law_ahead.specs.Served.{later, standing_same}
 use Rattle.law_ahead.specs.Leap.{event_in, later_on}
 use Rattle.table_entry.specs.Amounts.{owed_to}

@@ -22,8 +22,9 @@ use Rattle.spec_model.specs.Tables.{places, held_of}
 use Rattle.spec_rules.specs.Share.{load, load_of}
 use Rattle.spec_rules.specs.WellFormed.{Held, Tidy}
 use Rattle.law_model.specs.Loads.{load_of_free}
-use Rattle.law_steps.specs.Held.{Fraction, Piece, held_kinds, held_is, piece_of_lem, fraction_not}
-use Rattle.law_steps.specs.Places.{load_places}
+use Rattle.law_steps.specs.Held.{Fraction, Piece}
+use Rattle.law_steps.proofs.Held.{held_kinds, held_is, piece_of_lem, fraction_not}
+use Rattle.law_steps.proofs.Places.{load_places}
 use Rattle.law_ahead.specs.Leap.{event_in}
 use Rattle.law_ahead.specs.Ends.{due_in, Until}
 use Rattle.table_entry.specs.Amounts.{owed_to}

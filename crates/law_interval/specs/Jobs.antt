@@ -29,10 +29,11 @@ use Rattle.spec_rules.specs.Share.{load, order, job_count, need_with, step_b, st
 use Rattle.spec_rules.specs.Slots.{Job, JobName, name_of, job_at, jobs_from, job_length, job_need, jobs_of, lower_named, tie_order, jobs, same_name}
 use Rattle.spec_rules.specs.WellFormed.{Held}
 use Rattle.law_model.specs.Frames.{room_most, room_header}
-use Rattle.law_steps.specs.Held.{Fraction, Piece, held_kinds, piece_of_lem, not_fraction, fraction_not}
-use Rattle.law_steps.specs.StepB.{order_all, all_order, order_sum}
-use Rattle.law_steps.specs.Header.{held_whole, test_between, test_less}
-use Rattle.law_steps.specs.Extras.{needs_fit, step_c_passes}
+use Rattle.law_steps.specs.Held.{Fraction, Piece}
+use Rattle.law_steps.proofs.Held.{held_kinds, piece_of_lem, not_fraction, fraction_not}
+use Rattle.law_steps.proofs.StepB.{order_all, all_order, order_sum}
+use Rattle.law_steps.proofs.Header.{held_whole, test_between, test_less}
+use Rattle.law_steps.proofs.Extras.{needs_fit, step_c_passes}
 use Rattle.law_ahead.specs.Moved.{Together}
 use Rattle.law_slots.specs.Choice.{Keys}
 use Rattle.law_slots.specs.Service.{job_source, JobRoom, asking_dem}

@@ -25,7 +25,8 @@ use Rattle.spec_rules.specs.Calls.{plan_of}
 use Rattle.spec_rules.specs.Reading.{rises}
 use Rattle.spec_rules.specs.WellFormed.{WellFormed}
 use Rattle.law_model.specs.Frames.{most_slots, frame_most, room_header, header_less}
-use Rattle.law_steps.specs.Held.{Fraction, Piece, held_kinds, not_fraction}
+use Rattle.law_steps.specs.Held.{Fraction, Piece}
+use Rattle.law_steps.proofs.Held.{held_kinds, not_fraction}
 use Rattle.law_ahead.specs.Moved.{Together}
 use Rattle.law_ahead.specs.Tables.{formed_together}
 use Rattle.law_slots.specs.Meets.{slots_length, slots_owned}

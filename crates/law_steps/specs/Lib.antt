@@ -1,15 +1,11 @@
-pub mod RequestLaws
 pub mod Fields
 pub mod Held
 pub mod Header
 pub mod Settled
 pub mod Sources
-pub mod Grants
 pub mod Order
 pub mod Ranks
 pub mod StepB
 pub mod Extras
-pub mod Refusals
 pub mod Offers
-pub mod Places
 pub mod Closed

@@ -18,9 +18,10 @@ use Rattle.spec_rules.specs.Share.{load, job_count, load_of}
 use Rattle.spec_rules.specs.WellFormed.{Tidy}
 use Rattle.law_model.specs.Frames.{most_slots}
 use Rattle.law_model.specs.Loads.{load_of_free}
-use Rattle.law_steps.specs.Places.{load_places}
-use Rattle.law_steps.specs.Closed.{load_most}
-use Rattle.law_steps.specs.Ranks.{rank, rank_free}
+use Rattle.law_steps.proofs.Places.{load_places}
+use Rattle.law_steps.proofs.Closed.{load_most}
+use Rattle.law_steps.specs.Ranks.{rank}
+use Rattle.law_steps.proofs.Ranks.{rank_free}
 use Rattle.table_entry.specs.Amounts.{owed_to, limit_of, jobs_in}
 use Rattle.table_places.proofs.Known.{inside, past, size}
 use Rattle.table_queue.specs.declared.Queue.{Queue}

@@ -15,10 +15,13 @@ use Rattle.spec_model.specs.declared.Frame.{Frame}
 use Rattle.spec_model.specs.Tables.{places, held_of}
 use Rattle.spec_rules.specs.Share.{load, job_count, sooner}
 use Rattle.spec_rules.specs.WellFormed.{Held, Tidy}
-use Rattle.law_steps.specs.Held.{Fraction, Piece, held_kinds, piece_of_lem, fraction_not, held_is}
+use Rattle.law_steps.specs.Held.{Fraction, Piece}
+use Rattle.law_steps.proofs.Held.{held_kinds, piece_of_lem, fraction_not, held_is}
 use Rattle.law_steps.specs.StepB.{owed_before}
-use Rattle.law_steps.specs.Closed.{takes, by_kind}
-use Rattle.law_steps.specs.Ranks.{rank, rank_sooner, held_ranked, held_rank}
+use Rattle.law_steps.specs.Closed.{takes}
+use Rattle.law_steps.proofs.Closed.{by_kind}
+use Rattle.law_steps.specs.Ranks.{rank}
+use Rattle.law_steps.proofs.Ranks.{rank_sooner, held_ranked, held_rank}
 use Rattle.table_entry.specs.Amounts.{owed_to, limit_of, jobs_in}
 use Rattle.table_queue.specs.Zips.{zip, zip_map}
 use Rattle.table_queue.specs.declared.Queue.{Queue}

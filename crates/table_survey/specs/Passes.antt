@@ -16,7 +16,7 @@ use Rattle.spec_model.specs.declared.Name.{Name}
 use Rattle.spec_rules.specs.Calls.{holds}
 use Rattle.spec_rules.specs.WellFormed.{Held, Tidy}
 use Rattle.law_model.specs.Frames.{most_slots}
-use Rattle.law_steps.specs.Held.{held_is}
+use Rattle.law_steps.proofs.Held.{held_is}
 use Rattle.table_queue.specs.Queues.{largest32, Used}
 use Rattle.table_survey.specs.declared.Survey.{Survey}
 use Rattle.ahead_even.specs.Need.{even_need, need_free}

@@ -5,7 +5,7 @@ use Rattle.spec_model.specs.Entries.{free_entry}
 use Rattle.spec_model.specs.Tables.{places}
 use Rattle.spec_rules.specs.Share.{load_of}
 use Rattle.law_model.specs.Frames.{most_slots}
-use Rattle.law_steps.specs.Closed.{load_most}
+use Rattle.law_steps.proofs.Closed.{load_most}
 use Rattle.table_queue.proofs.Known.{used_inside}
 use Rattle.ahead_figures.proofs.Reading.{reading_none, reading_more, reading_all}
 use Rattle.ahead_figures.proofs.read_table.Goals as goal

@@ -8,7 +8,7 @@ use borrow.Author.Rules.{rules}
 use Rattle.spec_lists.specs.Lists.{sum_of}
 use Rattle.spec_model.specs.declared.Table.{Table}
 use Rattle.law_model.specs.Frames.{most_slots, room_most}
-use Rattle.law_steps.specs.Closed.{slots_most}
+use Rattle.law_steps.proofs.Closed.{slots_most}
 use Rattle.ahead_figures.specs.Columns.{Columns, columns}
 use Rattle.ahead_figures.specs.Figures.{longest}
 use Rattle.ahead_serve.specs.Serving.{left_of, unpaid, Ranked}

@@ -3,7 +3,7 @@ use borrow.Author.Tests.{lt-ltb, le-leb, lt-leb}
 use borrow.Author.Rules.{rules}
 use Rattle.spec_model.proofs.Products.{product_fits}
 use Rattle.spec_rules.specs.Share.{extra}
-use Rattle.law_steps.specs.Extras.{extra_le}
+use Rattle.law_steps.proofs.Extras.{extra_le}
 use Rattle.beacon_share.proofs.extra.Statement.{statement}
 use Rattle.beacon_share.proofs.extra.Tie as tie
 

@@ -1,5 +1,5 @@
 use mathlib.Core.Path.{sym, ◌∙◌}
-use Rattle.law_steps.specs.RequestLaws.{fields_fraction, fields_whole, fields_transfer, fields_unknown}
+use Rattle.law_steps.proofs.RequestLaws.{fields_fraction, fields_whole, fields_transfer, fields_unknown}
 use Rattle.kind_checks.proofs.check_fields.Goals as goal
 
 pub returns-then-kind-eq1 : goal.returns-then-kind-eq1

@@ -7,7 +7,7 @@ use Rattle.base_lists.specs.All.{all_at}
 use Rattle.spec_model.specs.Tables.{places}
 use Rattle.spec_rules.specs.Share.{load_of}
 use Rattle.law_model.specs.Frames.{most_slots}
-use Rattle.law_steps.specs.Closed.{load_most}
+use Rattle.law_steps.proofs.Closed.{load_most}
 use Rattle.table_places.proofs.Known.{inside, past}
 use Rattle.table_queue.specs.Queues.{free_place}
 use Rattle.ahead_even.specs.Need.{even_need}

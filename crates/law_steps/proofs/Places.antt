@@ -15,8 +15,9 @@ use Rattle.spec_model.specs.Tables.{held_of}
 use Rattle.spec_rules.specs.Share.{load, capacity, remains}
 use Rattle.spec_rules.specs.WellFormed.{Held, Tidy}
 use Rattle.law_model.specs.Loads.{load_of_free}
-use Rattle.law_steps.specs.Held.{held_is}
-use Rattle.law_steps.specs.StepB.{step_b_of, owed_before, step_b_total, step_b_closed, remains_rest}
+use Rattle.law_steps.proofs.Held.{held_is}
+use Rattle.law_steps.specs.StepB.{step_b_of, owed_before}
+use Rattle.law_steps.proofs.StepB.{step_b_total, step_b_closed, remains_rest}
 
 pub tidy_held : {t : Table} → Tidy t → All (Held t.frame) (held_of t)
 tidy_held {t} w = all_keep is_held real w.entries

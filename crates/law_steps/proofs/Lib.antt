@@ -1,0 +1,15 @@
+pub mod Closed
+pub mod Extras
+pub mod Fields
+pub mod Grants
+pub mod Header
+pub mod Held
+pub mod Offers
+pub mod Order
+pub mod Places
+pub mod Ranks
+pub mod Refusals
+pub mod RequestLaws
+pub mod Settled
+pub mod Sources
+pub mod StepB
