@@ -1,4 +1,4 @@
-/* Gelmush for C on x86-64 Linux. Link target/staticlib/libgelmush.a, which `rt staticlib gelmush` writes.
+/* Gelmush for C on x86-64 Linux. Link target/staticlib/libgelmush.a, which `make archive` writes.
  *
  * The caller owns the memory: a table, and the words of a plan. A call finds the table where the caller keeps it, and leaves the
  * table after it there. Every answer is a number of the rules: 0, or that of the first refusal that applies. A refused call leaves
