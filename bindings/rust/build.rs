@@ -1,11 +1,11 @@
-//! Links the archive that `rt staticlib gelmush` writes at the top of the repository.
+//! Links the archive that `make archive` writes at the top of the repository.
 
 use std::path::Path;
 
 fn main() {
     let folder = Path::new(env!("CARGO_MANIFEST_DIR")).join("../../target/staticlib");
     let archive = folder.join("libgelmush.a");
-    assert!(archive.exists(), "{} is missing: run `rt staticlib gelmush`", archive.display());
+    assert!(archive.exists(), "{} is missing: run `make archive`", archive.display());
     println!("cargo::rerun-if-changed={}", archive.display());
     println!("cargo::rustc-link-search=native={}", folder.display());
     println!("cargo::rustc-link-lib=static=gelmush");
