@@ -2,7 +2,7 @@ use native.Mathlib.Omega.{arith}
 use borrow.Author.Tests.{lt-ltb, le-leb, lt-leb}
 use Rattle.spec_model.proofs.Products.{product_fits}
 use Rattle.spec_rules.specs.Share.{extra}
-use Rattle.law_steps.specs.Extras.{extra_le}
+use Rattle.law_steps.proofs.Extras.{extra_le}
 use Rattle.beacon_share.proofs.extra.Goals as goal
 
 pub returns-then-rest-eq0 : goal.returns-then-rest-eq0
