@@ -33,7 +33,7 @@ use Rattle.law_ahead.specs.Timely.{piece_of, timely_meets}
 use Rattle.law_ahead.specs.KeepsUp.{lives_most}
 use Rattle.law_ahead.specs.Fits.{Fits, fits_on, ahead_fits, fits_ahead_lem}
 use Rattle.law_slots.specs.Choice.{wins}
-use Rattle.law_slots.specs.Idle.{idle_free}
+use Rattle.law_slots.proofs.Idle.{idle_free}
 use Rattle.law_interval.specs.Gets.{of_name, name_at, entry_gets}
 use Rattle.spec_demand.specs.Assignment.{Assignment, is_to, assigned, LeavesHeader}
 use Rattle.law_exact.specs.Entries.{ServesEntry}
