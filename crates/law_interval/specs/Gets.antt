@@ -25,7 +25,7 @@ use Rattle.spec_rules.specs.WellFormed.{Once}
 use Rattle.law_model.specs.Frames.{room_header}
 use Rattle.law_model.specs.Names.{same_refl}
 use Rattle.law_ahead.specs.Moved.{Together}
-use Rattle.law_ahead.specs.Timely.{loads_now}
+use Rattle.law_ahead.proofs.Timely.{loads_now}
 use Rattle.law_ahead.specs.Fits.{Fits}
 use Rattle.law_slots.specs.Choice.{wins}
 use Rattle.law_slots.specs.Meets.{has, Met}

@@ -28,7 +28,7 @@ use Rattle.law_model.specs.Frames.{most_slots, frame_most, room_header, header_l
 use Rattle.law_steps.specs.Held.{Fraction, Piece}
 use Rattle.law_steps.proofs.Held.{held_kinds, not_fraction}
 use Rattle.law_ahead.specs.Moved.{Together}
-use Rattle.law_ahead.specs.Tables.{formed_together}
+use Rattle.law_ahead.proofs.Tables.{formed_together}
 use Rattle.law_slots.proofs.Meets.{slots_length, slots_owned}
 use Rattle.law_slots.proofs.Idle.{owned_after}
 use Rattle.law_slots.proofs.Events.{runs_idle}
