@@ -13,9 +13,10 @@ use Rattle.spec_rules.specs.Share.{load, load_of}
 use Rattle.spec_rules.specs.WellFormed.{Tidy}
 use Rattle.law_model.specs.Loads.{load_of_free, load_of_most}
 use Rattle.law_steps.proofs.Places.{load_places}
-use Rattle.law_ahead.specs.Tables.{tidy_together}
+use Rattle.law_ahead.proofs.Tables.{tidy_together}
 use Rattle.law_ahead.specs.KeepsUp.{keeps_up_ahead}
-use Rattle.law_ahead.specs.Even.{evenly, even_ahead}
+use Rattle.law_ahead.specs.Even.{evenly}
+use Rattle.law_ahead.proofs.Even.{even_ahead}
 use Rattle.table_queue.specs.Queues.{largest32}
 
 -- its load, and what serves a piece evenly up to its deadline

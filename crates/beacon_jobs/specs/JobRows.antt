@@ -24,7 +24,7 @@ use Rattle.spec_rules.specs.Calls.{plan_of}
 use Rattle.spec_rules.specs.WellFormed.{Tidy}
 use Rattle.law_steps.proofs.Places.{tidy_held}
 use Rattle.law_steps.proofs.Closed.{slots_most}
-use Rattle.law_ahead.specs.Tables.{tidy_together}
+use Rattle.law_ahead.proofs.Tables.{tidy_together}
 use Rattle.law_model.specs.Frames.{room_less}
 use Rattle.law_interval.specs.Jobs.{tie_sum, all_tie, jobs_keys}
 use Rattle.law_interval.specs.Plan.{plan_runs}

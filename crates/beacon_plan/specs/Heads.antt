@@ -14,7 +14,8 @@ use Rattle.base_lists.specs.All.{all_map, all_of_map}
 use Rattle.base_lists.specs.Picked.{picked_one}
 use Rattle.spec_model.specs.declared.Name.{Name}
 use Rattle.spec_rules.specs.Slots.{Job, job_at, due_first, choose}
-use Rattle.law_slots.specs.Choice.{Choice, takes, chooses, ready_both}
+use Rattle.law_slots.specs.Choice.{Choice, takes}
+use Rattle.law_slots.proofs.Choice.{chooses, ready_both}
 use Rattle.beacon_plan.specs.Rows.{row_from, Padded}
 use Rattle.beacon_plan.specs.RowLaws.{row_all}
 

@@ -12,7 +12,8 @@ use Rattle.base_lists.specs.Tests.{and_both}
 use Rattle.spec_model.specs.Names.{same}
 use Rattle.spec_rules.specs.Slots.{JobName, Run}
 use Rattle.law_model.specs.Names.{same_true}
-use Rattle.law_slots.specs.Events.{joined, joined_joined, joined_apart}
+use Rattle.law_slots.specs.Events.{joined}
+use Rattle.law_slots.proofs.Events.{joined_joined, joined_apart}
 use Rattle.plan_record.specs.declared.Pen.{Pen}
 use Rattle.plan_record.specs.Recorded.{run_of}
 use Rattle.plan_record.specs.Pens.{owner, blank, open_run, grows, closed, onward, anew, extended}

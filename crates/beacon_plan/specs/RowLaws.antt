@@ -8,7 +8,8 @@ use Rattle.spec_lists.specs.All.{All, stop, and}
 use Rattle.base_lists.specs.All.{head, tail, all_at, all_append}
 use Rattle.base_lists.specs.Sums.{sum_append, sum_keep_le}
 use Rattle.spec_rules.specs.Slots.{Job, job_at, jobs_from, slots_from, runs_from}
-use Rattle.law_slots.specs.Count.{to_come, ahead, few_runs_lem, come_later}
+use Rattle.law_slots.specs.Count.{to_come, ahead}
+use Rattle.law_slots.proofs.Count.{few_runs_lem, come_later}
 use Rattle.spec_model.specs.Names.{nobody}
 use Rattle.spec_model.specs.Tables.{places}
 use Rattle.spec_model.specs.declared.Name.{Name}

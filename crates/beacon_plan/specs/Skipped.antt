@@ -9,8 +9,10 @@ use Rattle.spec_lists.specs.All.{All, stop, and}
 use Rattle.base_lists.specs.All.{head, tail, all_map, map_ext}
 use Rattle.base_lists.specs.Sums.{sum_map, sum_same, count_none}
 use Rattle.spec_rules.specs.Slots.{Job, JobName, name_of, is_ready, due_first, choose, Slot, slot_of, same_name, has_slot, charge, slots_from}
-use Rattle.law_slots.specs.Choice.{Keys, same_self, charge_need}
-use Rattle.law_slots.specs.Events.{less_by, spent, Quiet, run_on}
+use Rattle.law_slots.specs.Choice.{Keys}
+use Rattle.law_slots.proofs.Choice.{same_self, charge_need}
+use Rattle.law_slots.specs.Events.{less_by, spent, Quiet}
+use Rattle.law_slots.proofs.Events.{run_on}
 use Rattle.beacon_plan.specs.Rows.{unfinished}
 
 -- ---- without some jobs that need nothing

@@ -14,8 +14,10 @@ use Rattle.spec_model.specs.Tables.{places}
 use Rattle.spec_model.specs.declared.Name.{Name}
 use Rattle.spec_rules.specs.Slots.{Job, choose, slots_from, Run, runs_from}
 use Rattle.spec_rules.specs.Records.{record_words, plan_words, words_of}
-use Rattle.law_slots.specs.Choice.{Keys, Choice, takes, chooses, ready_both}
-use Rattle.law_slots.specs.Events.{less_by, spent, Quiet, joined, idle_on, runs_joined, runs_idle}
+use Rattle.law_slots.specs.Choice.{Keys, Choice, takes}
+use Rattle.law_slots.proofs.Choice.{chooses, ready_both}
+use Rattle.law_slots.specs.Events.{less_by, spent, Quiet, joined}
+use Rattle.law_slots.proofs.Events.{idle_on, runs_joined, runs_idle}
 use Rattle.law_model.specs.Frames.{most_slots}
 use Rattle.law_model.specs.Records.{length_words}
 use Rattle.plan_record.specs.Recorded.{recorded, recorded_after}

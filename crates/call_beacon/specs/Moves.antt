@@ -15,7 +15,7 @@ use Rattle.spec_rules.specs.Ahead.{step_f}
 use Rattle.spec_rules.specs.Calls.{plan_of, advanced, beacon}
 use Rattle.spec_rules.specs.Records.{words_of, plan_words}
 use Rattle.spec_rules.specs.WellFormed.{Tidy}
-use Rattle.law_slots.specs.Events.{runs_idle}
+use Rattle.law_slots.proofs.Events.{runs_idle}
 use Rattle.law_steps.proofs.Settled.{after_free}
 use Rattle.beacon_share.specs.declared.Shares.{Shares}
 use Rattle.table_queue.specs.Queues.{Used}

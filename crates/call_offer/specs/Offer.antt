@@ -33,10 +33,11 @@ use Rattle.law_steps.proofs.Offers.{refusal_none, none_refusal, refusal_stops, f
 use Rattle.law_steps.specs.Offers.{has_time}
 use Rattle.law_steps.proofs.Offers.{offer_refused, offer_passed}
 use Rattle.law_ahead.specs.KeepsUp.{keeps_up_ahead}
-use Rattle.law_ahead.specs.Tables.{tidy_together, tidy_some}
-use Rattle.law_ahead.specs.Fits.{ahead_once, ahead_plain}
-use Rattle.law_ahead.specs.Formed.{passed_picked, placed_tidy, placed_ahead}
-use Rattle.law_ahead.specs.Even.{evenly, even_ahead}
+use Rattle.law_ahead.proofs.Tables.{tidy_together, tidy_some}
+use Rattle.law_ahead.proofs.Fits.{ahead_once, ahead_plain}
+use Rattle.law_ahead.proofs.Formed.{passed_picked, placed_tidy, placed_ahead}
+use Rattle.law_ahead.specs.Even.{evenly}
+use Rattle.law_ahead.proofs.Even.{even_ahead}
 use Rattle.ahead_even.specs.Need.{even_need, needs_places}
 use Rattle.table_survey.specs.Free.{is_free, place_full, place_taken}
 use Rattle.table_places.specs.Put.{put_past}

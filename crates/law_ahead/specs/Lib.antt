@@ -7,5 +7,4 @@ pub mod Loop
 pub mod Served
 pub mod Leap
 pub mod Ends
-pub mod Formed
 pub mod Even

@@ -33,8 +33,8 @@ use Rattle.law_steps.proofs.Offers.{checks_passed, answer_passed}
 use Rattle.law_steps.specs.StepB.{step_b_of}
 use Rattle.law_steps.specs.Extras.{step_c_of}
 use Rattle.law_ahead.specs.Moved.{step_of}
-use Rattle.law_ahead.specs.Tables.{formed_together, keep_free}
-use Rattle.law_ahead.specs.Formed.{passed_picked, offered_formed, withdrawn_formed, beacon_formed, advanced_held}
+use Rattle.law_ahead.proofs.Tables.{formed_together, keep_free}
+use Rattle.law_ahead.proofs.Formed.{passed_picked, offered_formed, withdrawn_formed, beacon_formed, advanced_held}
 use Rattle.spec_demand.specs.History.{Call, Offer, Withdraw, Beacon, answer_on, plan_on, seen, after}
 use Rattle.spec_demand.specs.Ledger.{Admission, Ledger, grown, lasts, is_of, note_done, note}
 use Rattle.spec_demand.specs.Demand.{Kept}

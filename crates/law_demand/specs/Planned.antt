@@ -28,12 +28,13 @@ use Rattle.law_steps.specs.Sources.{source_of}
 use Rattle.law_steps.proofs.Sources.{source_rem, source_left}
 use Rattle.law_steps.specs.StepB.{step_b_of}
 use Rattle.law_steps.specs.Extras.{step_c_of}
-use Rattle.law_ahead.specs.Moved.{own_extras}
-use Rattle.law_ahead.specs.Timely.{piece_of, timely_meets}
-use Rattle.law_ahead.specs.Tables.{formed_together, formed_fits, formed_header}
+use Rattle.law_ahead.proofs.Moved.{own_extras}
+use Rattle.law_ahead.specs.Timely.{piece_of}
+use Rattle.law_ahead.proofs.Timely.{timely_meets}
+use Rattle.law_ahead.proofs.Tables.{formed_together, formed_fits, formed_header}
 use Rattle.law_slots.specs.Choice.{wins}
-use Rattle.law_slots.specs.Idle.{idle_free}
-use Rattle.law_slots.specs.Runs.{runs_cover, runs_once}
+use Rattle.law_slots.proofs.Idle.{idle_free}
+use Rattle.law_slots.proofs.Runs.{runs_cover, runs_once}
 use Rattle.law_interval.specs.Gets.{of_name, name_at, entry_gets}
 use Rattle.spec_demand.specs.Demand.{times_given, given_to, slots_of}
 use Rattle.law_demand.specs.Grown.{Gets}

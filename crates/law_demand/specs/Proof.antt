@@ -28,8 +28,8 @@ use Rattle.law_model.specs.Frames.{opened_none}
 use Rattle.law_model.specs.Records.{records_back}
 use Rattle.law_steps.specs.Offers.{offer_checks_but, is_full, has_time}
 use Rattle.law_steps.proofs.Offers.{offer_refused, offer_passed, answer_passed}
-use Rattle.law_ahead.specs.Tables.{formed_together}
-use Rattle.law_ahead.specs.Formed.{opened_formed, passed_held}
+use Rattle.law_ahead.proofs.Tables.{formed_together}
+use Rattle.law_ahead.proofs.Formed.{opened_formed, passed_held}
 use Rattle.law_exact.specs.Offer.{offer_served, offer_hopeless}
 use Rattle.spec_demand.specs.History.{Call, Offer, Withdraw, Beacon, answer_on, plan_on, seen, after, history, table_after}
 use Rattle.spec_demand.specs.Ledger.{Ledger, begins, is_of, note, note_all, no_admission, ledger_of}

@@ -13,8 +13,8 @@ use Rattle.spec_rules.specs.Calls.{holds, offer_answer}
 use Rattle.spec_rules.specs.WellFormed.{WellFormed}
 use Rattle.law_steps.specs.Offers.{offer_checks_but, is_full, has_time}
 use Rattle.law_steps.proofs.Offers.{answer_fits, answer_not}
-use Rattle.law_ahead.specs.Tables.{formed_header}
-use Rattle.law_ahead.specs.Formed.{passed_together}
+use Rattle.law_ahead.proofs.Tables.{formed_header}
+use Rattle.law_ahead.proofs.Formed.{passed_together}
 use Rattle.spec_demand.specs.Assignment.{Assignment, LeavesHeader}
 use Rattle.law_exact.specs.Entries.{ServesEntry}
 use Rattle.law_exact.specs.Plans.{plans_ahead, plans_leave, ahead_serves, serves_ahead}

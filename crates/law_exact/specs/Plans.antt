@@ -28,12 +28,15 @@ use Rattle.law_steps.specs.Sources.{source_of}
 use Rattle.law_steps.proofs.Sources.{free_source, fraction_source, source_next, held_sound}
 use Rattle.law_steps.specs.StepB.{step_b_of}
 use Rattle.law_steps.specs.Extras.{step_c_of}
-use Rattle.law_ahead.specs.Moved.{Together, step_of, moved, own_extras, moved_together, moved_life}
-use Rattle.law_ahead.specs.Timely.{piece_of, timely_meets}
-use Rattle.law_ahead.specs.KeepsUp.{lives_most}
-use Rattle.law_ahead.specs.Fits.{Fits, fits_on, ahead_fits, fits_ahead_lem}
+use Rattle.law_ahead.specs.Moved.{Together, step_of, moved}
+use Rattle.law_ahead.proofs.Moved.{own_extras, moved_together, moved_life}
+use Rattle.law_ahead.specs.Timely.{piece_of}
+use Rattle.law_ahead.proofs.Timely.{timely_meets}
+use Rattle.law_ahead.proofs.KeepsUp.{lives_most}
+use Rattle.law_ahead.specs.Fits.{Fits}
+use Rattle.law_ahead.proofs.Fits.{fits_on, ahead_fits, fits_ahead_lem}
 use Rattle.law_slots.specs.Choice.{wins}
-use Rattle.law_slots.specs.Idle.{idle_free}
+use Rattle.law_slots.proofs.Idle.{idle_free}
 use Rattle.law_interval.specs.Gets.{of_name, name_at, entry_gets}
 use Rattle.spec_demand.specs.Assignment.{Assignment, is_to, assigned, LeavesHeader}
 use Rattle.law_exact.specs.Entries.{ServesEntry}

@@ -18,10 +18,11 @@ use Rattle.law_model.specs.Loads.{load_of_free, load_of_standing}
 use Rattle.law_steps.proofs.Places.{load_places}
 use Rattle.law_steps.specs.Closed.{takes}
 use Rattle.law_ahead.specs.KeepsUp.{keeps_up_ahead}
-use Rattle.law_ahead.specs.Loop.{ahead_over, ahead_misses}
+use Rattle.law_ahead.proofs.Loop.{ahead_over, ahead_misses}
 use Rattle.law_ahead.specs.Served.{later}
 use Rattle.law_ahead.specs.Leap.{E, ended}
-use Rattle.law_ahead.specs.Ends.{due_in, Until, turn_tidy, turn_misses, turn_same}
+use Rattle.law_ahead.specs.Ends.{due_in, Until}
+use Rattle.law_ahead.proofs.Ends.{turn_tidy, turn_misses, turn_same}
 use Rattle.ahead_serve.specs.Serving.{left_of, due_of, unpaid, Owing, Ranked}
 use Rattle.ahead_serve.specs.Laws.{unpaid_less, length_unpaid, length_left, ranked_less}
 use Rattle.ahead_figures.specs.Columns.{Columns}

@@ -35,7 +35,8 @@ use Rattle.law_steps.proofs.Closed.{takes_owed}
 use Rattle.law_steps.specs.Ranks.{rank, rank_interval}
 use Rattle.law_steps.proofs.Ranks.{rank_sooner, held_ranked, rank_name}
 use Rattle.law_ahead.specs.Served.{later}
-use Rattle.law_ahead.specs.Leap.{event_in, E, ended, later_free}
+use Rattle.law_ahead.specs.Leap.{event_in, E, ended}
+use Rattle.law_ahead.proofs.Leap.{later_free}
 use Rattle.law_ahead.specs.Ends.{due_in, Until}
 use Rattle.table_entry.specs.Amounts.{owed_to}
 use Rattle.table_queue.specs.Zips.{zip_at, length_zip}

@@ -20,8 +20,10 @@ use Rattle.law_steps.specs.Held.{Fraction, Piece}
 use Rattle.law_steps.proofs.Held.{held_kinds, held_is, piece_of_lem, fraction_not}
 use Rattle.law_steps.specs.Ranks.{rank, Ranked, rank_most, rank_interval}
 use Rattle.law_steps.proofs.Ranks.{held_ranked, held_rank, rank_free, rank_left, rank_most_lem}
-use Rattle.law_ahead.specs.Served.{later, standing_same}
-use Rattle.law_ahead.specs.Leap.{event_in, later_on}
+use Rattle.law_ahead.specs.Served.{later}
+use Rattle.law_ahead.proofs.Served.{standing_same}
+use Rattle.law_ahead.specs.Leap.{event_in}
+use Rattle.law_ahead.proofs.Leap.{later_on}
 use Rattle.table_entry.specs.Amounts.{owed_to}
 use Rattle.ahead_figures.specs.Figures.{longest, never, end_of, begin_of, period_of, figures_of}
 use Rattle.ahead_figures.specs.declared.Figures.{Figures}

@@ -25,11 +25,12 @@ use Rattle.spec_rules.specs.WellFormed.{Once}
 use Rattle.law_model.specs.Frames.{room_header}
 use Rattle.law_model.specs.Names.{same_refl}
 use Rattle.law_ahead.specs.Moved.{Together}
-use Rattle.law_ahead.specs.Timely.{loads_now}
+use Rattle.law_ahead.proofs.Timely.{loads_now}
 use Rattle.law_ahead.specs.Fits.{Fits}
 use Rattle.law_slots.specs.Choice.{wins}
-use Rattle.law_slots.specs.Meets.{has, Met, slots_meet, met_inside, met_apart, slot_shares}
-use Rattle.law_slots.specs.Idle.{met_after, shared_after}
+use Rattle.law_slots.specs.Meets.{has, Met}
+use Rattle.law_slots.proofs.Meets.{slots_meet, met_inside, met_apart, slot_shares}
+use Rattle.law_slots.proofs.Idle.{met_after, shared_after}
 use Rattle.law_interval.specs.Jobs.{fills, jobs_sum, jobs_each, jobs_keys, jobs_room, jobs_windows, from_all, from_only}
 
 -- the job is one of the request n

@@ -36,7 +36,8 @@ use Rattle.law_steps.proofs.Header.{held_whole, test_between, test_less}
 use Rattle.law_steps.proofs.Extras.{needs_fit, step_c_passes}
 use Rattle.law_ahead.specs.Moved.{Together}
 use Rattle.law_slots.specs.Choice.{Keys}
-use Rattle.law_slots.specs.Service.{job_source, JobRoom, asking_dem}
+use Rattle.law_slots.specs.Service.{job_source, JobRoom}
+use Rattle.law_slots.proofs.Service.{asking_dem}
 
 -- ---- jobs of one request
 module _ (s : Name) (T need : ℕ) where

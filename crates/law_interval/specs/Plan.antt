@@ -28,13 +28,15 @@ use Rattle.law_model.specs.Frames.{most_slots, frame_most, room_header, header_l
 use Rattle.law_steps.specs.Held.{Fraction, Piece}
 use Rattle.law_steps.proofs.Held.{held_kinds, not_fraction}
 use Rattle.law_ahead.specs.Moved.{Together}
-use Rattle.law_ahead.specs.Tables.{formed_together}
-use Rattle.law_slots.specs.Meets.{slots_length, slots_owned}
-use Rattle.law_slots.specs.Idle.{owned_after}
-use Rattle.law_slots.specs.Events.{runs_idle}
+use Rattle.law_ahead.proofs.Tables.{formed_together}
+use Rattle.law_slots.proofs.Meets.{slots_length, slots_owned}
+use Rattle.law_slots.proofs.Idle.{owned_after}
+use Rattle.law_slots.proofs.Events.{runs_idle}
 use Rattle.law_slots.specs.Cuts.{name_in}
-use Rattle.law_slots.specs.Runs.{IsRun, runs_are, all_runs, runs_rise, runs_end, runs_named}
-use Rattle.law_slots.specs.Count.{to_come, few_runs_lem, come_later}
+use Rattle.law_slots.specs.Runs.{IsRun}
+use Rattle.law_slots.proofs.Runs.{runs_are, all_runs, runs_rise, runs_end, runs_named}
+use Rattle.law_slots.specs.Count.{to_come}
+use Rattle.law_slots.proofs.Count.{few_runs_lem, come_later}
 use Rattle.law_interval.specs.Jobs.{jobs_sum, jobs_all, jobs_keys}
 
 -- ---- few records

@@ -5,7 +5,7 @@ use Rattle.base_lists.specs.Tests.{clash}
 use Rattle.spec_model.specs.declared.Setting.{Setting}
 use Rattle.spec_rules.specs.Settings.{open_answer, opened}
 use Rattle.spec_rules.specs.WellFormed.{WellFormed}
-use Rattle.law_ahead.specs.Formed.{opened_formed, offered_formed, withdrawn_formed, advanced_formed}
+use Rattle.law_ahead.proofs.Formed.{opened_formed, offered_formed, withdrawn_formed, advanced_formed}
 use Rattle.spec_shelf.specs.declared.Command.{Command}
 use Rattle.spec_shelf.specs.declared.Command.TheVariants.{Open, Offer, Withdraw, Beacon, OtherForm}
 use Rattle.spec_shelf.specs.declared.State.{State}

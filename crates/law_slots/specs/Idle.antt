@@ -1,47 +1,12 @@
 -- Idle slots before others, as those of a header: no job has them, every job is met so much later, and what holds of each slot's job holds as
 -- before. Assumes nothing.
-use Rattle.std.specs.Prelude.{◌≡◌, refl, ◌⊎◌, Bool, false, cond, List, ◌∷◌, ◌++◌, ℕ, zero, suc, ◌+◌, ◌<◌, get_or, replicate}
-use Rattle.std.proofs.Common.{sym, inl, inr, ⊎_elim, add-zero, zero-add, add-suc, suc-add, arith}
-use Rattle.std.proofs.Math.Option.{none, some, none-ne-some}
+use Rattle.std.specs.Prelude.{◌≡◌, Bool, cond, List, ℕ, get_or}
+use Rattle.std.proofs.Math.Option.{none}
 use Rattle.spec_lists.specs.Lists.{sum_of}
-use Rattle.base_lists.specs.Tests.{cond_zero}
-use Rattle.base_lists.specs.All.{all_of}
-use Rattle.base_lists.specs.Sums.{sum_zero}
-use Rattle.spec_rules.specs.Slots.{Job, JobName, Slot, name_of, has_slot}
+use Rattle.spec_rules.specs.Slots.{Job, JobName, Slot, name_of}
 use Rattle.law_slots.specs.Choice.{wins}
-use Rattle.law_slots.specs.Meets.{has, Met, Outside}
-
--- nobody has one of them
-pub idle_free : (h x : ℕ) (cs : List Slot) → x < h → get_or (replicate h none ++ cs) x none ≡ none
-idle_free zero x cs l = absurd (omega arith)
-idle_free (suc h) zero cs l = refl
-idle_free (suc h) (suc x) cs l = idle_free h x cs (omega arith)
-
--- ---- jobs that are met
-met_idle : (s n : ℕ) (cs : List Slot) (j : Job) → Met (suc s) n cs j → Met s (suc n) (none ∷ cs) j
-met_idle s n cs j m = record { exact = omega (arith, m.exact); outside = out }
-  where
-    out : (x : ℕ) → Outside (s + x) j → has_slot (get_or (none ∷ cs) x none) j ≡ false
-    out zero z = refl
-    out (suc x) z = m.outside x (⊎_elim (λ e. inl (omega arith)) (λ e. inr (omega arith)) z)
-
-pub met_after : (h s n : ℕ) (cs : List Slot) (j : Job) → Met (s + h) n cs j → Met s (h + n) (replicate h none ++ cs) j
-met_after zero s n cs j m = rw (zero-add n) (rw (add-zero s) at m)
-met_after (suc h) s n cs j m =
-    rw (suc-add h n) (met_idle s (h + n) (replicate h none ++ cs) j (met_after h (suc s) n cs j (rw (add-suc s h, ← suc-add s h) at m)))
+use Rattle.law_slots.specs.Meets.{has}
 
 -- ---- a slot is a passing job's as often as the passing jobs, together, have it
 abbrev pub Shared : List Slot → List Job → Type 0
 Shared cs js = (p : JobName → Bool) (x : ℕ) → wins p (get_or cs x none) ≡ sum_of (λ j. cond (p (name_of j)) (has cs j x) 0) js
-
-pub shared_after : (h : ℕ) (cs : List Slot) (js : List Job) → Shared cs js → Shared (replicate h none ++ cs) js
-shared_after zero cs js f p x = f p x
-shared_after (suc h) cs js f p zero = sym (sum_zero (λ j. cond (p (name_of j)) 0 0) (all_of js (λ j. cond_zero (p (name_of j)))))
-shared_after (suc h) cs js f p (suc x) = shared_after h cs js f p x
-
--- ---- what holds of each slot's job
-pub owned_after : (P : JobName → Type 0) (h : ℕ) (cs : List Slot) → ((x : ℕ) (k : JobName) → get_or cs x none ≡ some k → P k)
-    → (x : ℕ) (k : JobName) → get_or (replicate h none ++ cs) x none ≡ some k → P k
-owned_after P zero cs f x k e = f x k e
-owned_after P (suc h) cs f zero k e = absurd (none-ne-some k e)
-owned_after P (suc h) cs f (suc x) k e = owned_after P h cs f x k e

@@ -2,7 +2,7 @@
 use mathlib.Core.Path.{sym, subst}
 use borrow.Author.Rules.{rules}
 use Rattle.spec_rules.specs.WellFormed.{WellFormed}
-use Rattle.law_ahead.specs.Formed.{offered_formed}
+use Rattle.law_ahead.proofs.Formed.{offered_formed}
 use Rattle.demo_calls.proofs.offer.Statement.{statement}
 use Rattle.demo_calls.proofs.offer.Tie as tie
 

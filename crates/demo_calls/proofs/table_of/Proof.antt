@@ -9,7 +9,7 @@ use Rattle.spec_model.specs.Tables.{no_table}
 use Rattle.spec_model.specs.declared.Setting.{Setting}
 use Rattle.spec_rules.specs.Settings.{open_answer, Succeeds, opened}
 use Rattle.spec_rules.specs.WellFormed.{WellFormed}
-use Rattle.law_ahead.specs.Formed.{opened_formed}
+use Rattle.law_ahead.proofs.Formed.{opened_formed}
 use Rattle.demo_calls.proofs.table_of.Statement.{statement}
 use Rattle.demo_calls.proofs.table_of.Tie as tie
 

@@ -1,6 +1,6 @@
 -- The plan is the one that is expected, and its records are the first words of the memory. Assumes nothing.
 use borrow.Author.Rules.{rules}
-use Rattle.law_ahead.specs.Formed.{beacon_formed}
+use Rattle.law_ahead.proofs.Formed.{beacon_formed}
 use Rattle.demo_expected.specs.Said.{long_beacon}
 use Rattle.demo_expected.specs.Words.{plan_records}
 use Rattle.demo_expected.proofs.beacon.Statement.{statement}

@@ -2,7 +2,7 @@
 use mathlib.Core.Path.{◌∙◌}
 use borrow.Author.Rules.{rules}
 use borrow.Author.Tests.{eq-eqb}
-use Rattle.law_ahead.specs.Formed.{withdrawn_formed}
+use Rattle.law_ahead.proofs.Formed.{withdrawn_formed}
 use Rattle.demo_expected.proofs.withdraw.Statement.{statement}
 use Rattle.demo_expected.proofs.withdraw.Tie as tie
 

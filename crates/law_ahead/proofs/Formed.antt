@@ -29,10 +29,12 @@ use Rattle.law_steps.proofs.Grants.{once_cons}
 use Rattle.law_steps.proofs.Held.{held_is, entry_held}
 use Rattle.law_steps.specs.Offers.{offer_checks_but, Passed, is_full, has_time}
 use Rattle.law_steps.proofs.Offers.{checks_passed, answer_fits, answer_passed}
-use Rattle.law_ahead.specs.Moved.{Together, moved, own_extras}
-use Rattle.law_ahead.specs.Fits.{Fits, fits_on, ahead_fits, ahead_none}
-use Rattle.law_ahead.specs.Tables.{formed_together, formed_fits, tidy_formed, picked_together, picked_fits, picked_ahead, fewer_fits}
-use Rattle.law_ahead.specs.Tables.{placed_all, placed_length, placed_picked, stepped_held, stepped_tidy}
+use Rattle.law_ahead.specs.Moved.{Together, moved}
+use Rattle.law_ahead.proofs.Moved.{own_extras}
+use Rattle.law_ahead.specs.Fits.{Fits}
+use Rattle.law_ahead.proofs.Fits.{fits_on, ahead_fits, ahead_none}
+use Rattle.law_ahead.proofs.Tables.{formed_together, formed_fits, tidy_formed, picked_together, picked_fits, picked_ahead, fewer_fits}
+use Rattle.law_ahead.proofs.Tables.{placed_all, placed_length, placed_picked, stepped_held, stepped_tidy}
 
 -- ---- opening
 pub opened_formed : (s : Setting) → Succeeds s → WellFormed (opened s)

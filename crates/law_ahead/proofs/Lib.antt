@@ -1,0 +1,11 @@
+pub mod Ends
+pub mod Even
+pub mod Fits
+pub mod Formed
+pub mod KeepsUp
+pub mod Leap
+pub mod Loop
+pub mod Moved
+pub mod Served
+pub mod Tables
+pub mod Timely
