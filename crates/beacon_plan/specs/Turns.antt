@@ -2,7 +2,6 @@
 -- many slots an interval has. Assumes nothing.
 use Rattle.std.specs.Prelude.{◌≡◌, List, [], ◌∷◌, ◌++◌, ℕ, suc, ◌+◌, ◌*◌, ◌-◌, ◌/◌, ◌≤◌, ◌<◌, min, ltb, length}
 use Rattle.std.proofs.Common.{sym, ap, subst, zero-le, le_refl, lt_of_mul-lt-mul_right, arith, lt-ltb, le-ltb}
-use Rattle.std.proofs.Math.Option.{some}
 use Rattle.std.proofs.Math.Decide.{dec_le, ℕ_discrete}
 use Rattle.spec_lists.specs.Lists.{one_if, sum_of}
 use Rattle.base_lists.specs.Tests.{one_if_true, one_if_false, one_if_most}
