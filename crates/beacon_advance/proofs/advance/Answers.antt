@@ -1,7 +1,7 @@
 use Rattle.std.proofs.Common.{◌≡◌, refl, ap, ◌∙◌, length, arith}
 use Rattle.spec_model.specs.Entries.{free_entry}
 use Rattle.spec_model.specs.Tables.{places, with_entries}
-use Rattle.law_steps.specs.Settled.{after_free}
+use Rattle.law_steps.proofs.Settled.{after_free}
 use Rattle.table_queue.proofs.Known.{used_inside, used_rest}
 use Rattle.beacon_share.specs.Shares.{granted}
 use Rattle.beacon_advance.specs.Zipped.{zipped_more, zipped_all}
