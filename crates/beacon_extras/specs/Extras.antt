@@ -21,7 +21,7 @@ use Rattle.law_steps.proofs.Extras.{among_within, all_take_part}
 use Rattle.law_steps.proofs.Closed.{at_places, among_held}
 use Rattle.law_ahead.proofs.Timely.{loads_now}
 use Rattle.law_ahead.proofs.Tables.{formed_together, formed_fits}
-use Rattle.law_interval.specs.Jobs.{kinds_apart}
+use Rattle.law_interval.proofs.Jobs.{kinds_apart}
 use Rattle.table_queue.specs.Queues.{Used}
 use Rattle.beacon_share.specs.Shares.{sharing_among, shares_among, grant_of, grant_at, grant_among}
 use Rattle.beacon_share.specs.declared.Granted.{Granted}

@@ -26,8 +26,8 @@ use Rattle.law_steps.proofs.Places.{tidy_held}
 use Rattle.law_steps.proofs.Closed.{slots_most}
 use Rattle.law_ahead.proofs.Tables.{tidy_together}
 use Rattle.law_model.specs.Frames.{room_less}
-use Rattle.law_interval.specs.Jobs.{tie_sum, all_tie, jobs_keys}
-use Rattle.law_interval.specs.Plan.{plan_runs}
+use Rattle.law_interval.proofs.Jobs.{tie_sum, all_tie, jobs_keys}
+use Rattle.law_interval.proofs.Plan.{plan_runs}
 use Rattle.law_steps.specs.Ranks.{rank}
 use Rattle.table_queue.specs.Queues.{Used, jobs_few}
 use Rattle.beacon_share.specs.Shares.{sharing_of, grant_of, grants_right}

@@ -35,7 +35,8 @@ use Rattle.law_ahead.proofs.Tables.{formed_together, formed_fits, formed_header}
 use Rattle.law_slots.specs.Choice.{wins}
 use Rattle.law_slots.proofs.Idle.{idle_free}
 use Rattle.law_slots.proofs.Runs.{runs_cover, runs_once}
-use Rattle.law_interval.specs.Gets.{of_name, name_at, entry_gets}
+use Rattle.law_interval.specs.Gets.{of_name, name_at}
+use Rattle.law_interval.proofs.Gets.{entry_gets}
 use Rattle.spec_demand.specs.Demand.{times_given, given_to, slots_of}
 use Rattle.law_demand.specs.Grown.{Gets}
 

@@ -37,7 +37,8 @@ use Rattle.law_ahead.specs.Fits.{Fits}
 use Rattle.law_ahead.proofs.Fits.{fits_on, ahead_fits, fits_ahead_lem}
 use Rattle.law_slots.specs.Choice.{wins}
 use Rattle.law_slots.proofs.Idle.{idle_free}
-use Rattle.law_interval.specs.Gets.{of_name, name_at, entry_gets}
+use Rattle.law_interval.specs.Gets.{of_name, name_at}
+use Rattle.law_interval.proofs.Gets.{entry_gets}
 use Rattle.spec_demand.specs.Assignment.{Assignment, is_to, assigned, LeavesHeader}
 use Rattle.law_exact.specs.Entries.{ServesEntry}
 use Rattle.law_exact.specs.Needed.{slots_to, Fair, entry_fair, fair_entry, fair_fits}

@@ -1,3 +1,2 @@
-pub mod Jobs
 pub mod Gets
 pub mod Plan

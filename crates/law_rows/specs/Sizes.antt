@@ -6,7 +6,7 @@ use Rattle.spec_rules.specs.Settings.{open_answer}
 use Rattle.spec_rules.specs.Records.{most_records}
 use Rattle.spec_rules.specs.Calls.{offer_answer, held_answer, plan_of}
 use Rattle.spec_model.specs.Numbers.{other_form_number}
-use Rattle.law_interval.specs.Plan.{plan_right}
+use Rattle.law_interval.proofs.Plan.{plan_right}
 use Rattle.spec_shelf.specs.Commands.{open_verb, offer_verb, withdraw_verb, beacon_verb}
 use Rattle.spec_shelf.specs.declared.Command.{Command}
 use Rattle.spec_shelf.specs.declared.Command.TheVariants.{Open, Offer, Withdraw, Beacon, OtherForm}

@@ -6,7 +6,7 @@ use Rattle.spec_model.specs.declared.Table.{Table}
 use Rattle.spec_rules.specs.Records.{most_records, plan_words}
 use Rattle.spec_rules.specs.Calls.{plan_of, advanced, Beacon, beacon}
 use Rattle.spec_rules.specs.WellFormed.{WellFormed}
-use Rattle.law_interval.specs.Plan.{plan_right}
+use Rattle.law_interval.proofs.Plan.{plan_right}
 use Rattle.beacon_share.specs.declared.Shares.{Shares}
 use Rattle.call_beacon.specs.Moves.{Moves}
 use Rattle.spec_shelf.specs.Printed.{slot_row_of, slot_rows}
