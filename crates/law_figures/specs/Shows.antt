@@ -1,6 +1,6 @@
 -- Columns of figures that show a table, place by place, at a time that counts intervals from where looking ahead began: what they say of
 -- the table together. Assumes nothing.
-use Rattle.std.specs.Prelude.{◌≡◌, ◌⊎◌, Bool, true, cond, List, map, ℕ, ◌+◌, ◌-◌, ◌≤◌, ◌<◌, leb, eqb, drop, get_or}
+use Rattle.std.specs.Prelude.{◌≡◌, ◌⊎◌, Bool, true, cond, List, map, ℕ, ◌+◌, ◌≤◌, ◌<◌, leb, eqb, drop, get_or}
 use Rattle.std.proofs.Math.Path.{refl, sym, ap}
 use Rattle.std.proofs.Common.{subst, ◌∙◌, inl, inr, ⊎_elim, arith, ext_get_or, eqb-true, leb-true, eq-eqb, le-leb}
 use Rattle.std.proofs.Math.Bool.{false}
