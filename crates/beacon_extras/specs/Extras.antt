@@ -1,12 +1,12 @@
 -- The needs of kind 1 with its extras, where everyone takes part, added up by the parts place by place; and who takes part of a well-formed
 -- table's sharing where there is no header. Assumes nothing.
 use Rattle.std.specs.Prelude.{◌≡◌, refl, ◌⊎◌, Bool, true, List, ℕ, ◌+◌, ◌≤◌, ◌<◌, length, take, get_or, replicate}
-use Rattle.std.proofs.Common.{sym, ap, subst, ◌∙◌, inl, inr, zero-le, arith, length-take, eq-eqb}
+use Rattle.std.proofs.Common.{sym, ap, subst, ◌∙◌, inl, inr, zero-le, arith, length-take}
 use Rattle.spec_lists.specs.All.{All}
 use Rattle.base_lists.specs.All.{all_map, all_zip, all_at, all_take, all_kept}
 use Rattle.spec_model.specs.Entries.{free_entry, is_held, asks}
 use Rattle.spec_model.specs.Frames.{header_in}
-use Rattle.spec_model.specs.Tables.{places, held_of}
+use Rattle.spec_model.specs.Tables.{held_of}
 use Rattle.spec_model.specs.declared.Entry.{Entry}
 use Rattle.spec_model.specs.declared.Frame.{Frame}
 use Rattle.spec_model.specs.declared.Table.{Table}
