@@ -2,7 +2,8 @@
 -- that for each entry this is what the entry needs. Assumes nothing.
 use Rattle.std.specs.Prelude.{◌≡◌, List, [], ℕ, ◌+◌, ◌-◌, ◌≤◌, ◌<◌, max, get_or}
 use Rattle.std.proofs.Common.{arith}
-use Rattle.base_numbers.specs.Upward.{upward, upward_none}
+use Rattle.base_numbers.specs.Upward.{upward}
+use Rattle.base_numbers.proofs.Upward.{upward_none}
 use Rattle.spec_model.specs.declared.Entry.{Entry}
 use Rattle.spec_model.specs.Tables.{places}
 use Rattle.law_ahead.specs.Even.{evenly}

@@ -9,7 +9,8 @@ use borrow.Author.Tests.{eq-eqb}
 use Rattle.spec_lists.specs.Lists.{sum_of, span}
 use Rattle.base_lists.specs.All.{all_map}
 use Rattle.base_lists.specs.Sums.{sum_le}
-use Rattle.base_numbers.specs.Upward.{upward, upward_enough}
+use Rattle.base_numbers.specs.Upward.{upward}
+use Rattle.base_numbers.proofs.Upward.{upward_enough}
 use Rattle.base_edf.specs.Necessity.{Fed}
 use Rattle.base_edf.proofs.Necessity.{fed_gone, fed_room}
 use Rattle.spec_model.specs.Entries.{is_kind, asks}

@@ -30,7 +30,7 @@ use Rattle.law_steps.specs.Offers.{offer_checks_but, is_full, has_time}
 use Rattle.law_steps.proofs.Offers.{offer_refused, offer_passed, answer_passed}
 use Rattle.law_ahead.proofs.Tables.{formed_together}
 use Rattle.law_ahead.proofs.Formed.{opened_formed, passed_held}
-use Rattle.law_exact.specs.Offer.{offer_served, offer_hopeless}
+use Rattle.law_exact.proofs.Offer.{offer_served, offer_hopeless}
 use Rattle.spec_demand.specs.History.{Call, Offer, Withdraw, Beacon, answer_on, plan_on, seen, after, history, table_after}
 use Rattle.spec_demand.specs.Ledger.{Ledger, begins, is_of, note, note_all, no_admission, ledger_of}
 use Rattle.spec_demand.specs.Demand.{times_given, Kept, Serves, offer_checks, Right, GivenOnce, HeaderFree, answer_to, ServesAll, seen_of, seen_next, Claim}

@@ -1,4 +1,3 @@
 pub mod Entries
 pub mod Needed
 pub mod Plans
-pub mod Offer

@@ -17,7 +17,8 @@ use Rattle.law_ahead.proofs.Tables.{formed_header}
 use Rattle.law_ahead.proofs.Formed.{passed_together}
 use Rattle.spec_demand.specs.Assignment.{Assignment, LeavesHeader}
 use Rattle.law_exact.specs.Entries.{ServesEntry}
-use Rattle.law_exact.specs.Plans.{plans_ahead, plans_leave, ahead_serves, serves_ahead}
+use Rattle.law_exact.specs.Plans.{plans_ahead}
+use Rattle.law_exact.proofs.Plans.{plans_leave, ahead_serves, serves_ahead}
 
 module _ (t : Table) (w : WellFormed t) (q : Request)
     (h : refusal (offer_checks_but (holds t q.name) (is_full t q) t.frame q) ≡ 0)
