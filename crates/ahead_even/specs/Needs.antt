@@ -3,7 +3,7 @@
 use Rattle.std.specs.Prelude.{◌≡◌, List, [], ℕ, ◌+◌, ◌-◌, ◌≤◌, ◌<◌, max, get_or}
 use Rattle.std.proofs.Common.{arith}
 use Rattle.base_numbers.specs.Upward.{upward}
-use Rattle.base_numbers.proofs.Upward.{upward_none}
+use Rattle.base_numbers.proofs.RoundingUp.{upward_none}
 use Rattle.spec_model.specs.declared.Entry.{Entry}
 use Rattle.spec_model.specs.Tables.{places}
 use Rattle.law_ahead.specs.Even.{evenly}

@@ -1,1 +1,1 @@
-pub mod Upward
+pub mod RoundingUp

@@ -1,7 +1,6 @@
 -- Rounding up: of the numbers that are enough for a when taken b times, the least. By quotient and remainder, so that a and b, which may
 -- have different units, stand in no sum. Assumes nothing.
-use Rattle.std.specs.Prelude.{◌≡◌, refl, cond, ℕ, zero, suc, ◌+◌, ◌*◌, ◌/◌, ◌%◌, ◌≤◌, ◌<◌, min, eqb}
-use Rattle.std.proofs.Common.{div-add-mod', mod-lt, le_of_mul-le-mul_right, lt_of_mul-lt-mul_right, le-mul_of_pos_right, arith, ne_eqb}
+use Rattle.std.specs.Prelude.{cond, ℕ, ◌+◌, ◌/◌, ◌%◌, min, eqb}
 
 -- a over b: the quotient, and one more where something remains; over 0 it is 0, as the quotient is
 unfoldable pub upward : (a b : ℕ) → ℕ

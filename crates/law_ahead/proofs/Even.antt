@@ -10,7 +10,7 @@ use Rattle.spec_lists.specs.Lists.{sum_of, span}
 use Rattle.base_lists.specs.All.{all_map}
 use Rattle.base_lists.specs.Sums.{sum_le}
 use Rattle.base_numbers.specs.Upward.{upward}
-use Rattle.base_numbers.proofs.Upward.{upward_enough}
+use Rattle.base_numbers.proofs.RoundingUp.{upward_enough}
 use Rattle.base_edf.specs.Necessity.{Fed}
 use Rattle.base_edf.proofs.Necessity.{fed_gone, fed_room}
 use Rattle.spec_model.specs.Entries.{is_kind, asks}

@@ -1,6 +1,6 @@
-use Rattle.std.proofs.Common.{◌≡◌, ◌∙◌, arith, ltb-true, ltb-false}
+use Rattle.std.proofs.Common.{◌≡◌, ◌∙◌, arith}
 use Rattle.std.proofs.Math.Nat.{div-zero}
-use Rattle.base_numbers.proofs.Upward.{upward_zero, upward_exact, upward_more}
+use Rattle.base_numbers.proofs.RoundingUp.{upward_zero, upward_exact, upward_more}
 use Rattle.base_numbers.proofs.upward.Goals as goal
 use Rattle.base_numbers.proofs.upward.Goals.{else-b-gt0-via-then-b-gt0+else-a-b-gt0, else-b-gt0-via-else-b-gt0}
 
