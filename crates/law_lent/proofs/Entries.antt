@@ -9,7 +9,7 @@ use lib.Dec.{ltb, ltb→lt, nltb→le, T as Holds}
 use lib.ListN.{length, get_or, set, length-set}
 use lib.Seq.{set-get_or, set_out}
 use seplogic.Ra.Ura.{Ura}
-use seplogic.Ra.TreeShare.{full_share}
+use base.Fraction.{full_share}
 use mir.Syntax.{Ty, ty_bool, ty_int, ty_ptr, w64, deref, field, place, copy, int, rv_opd, op2, mul, lt, unsigned, offset, addr_of}
 use mir.Syntax.{Body as Code, seq, assign, cond, skip}
 use mir.Val.{Val, vint, vbool, vptr}
