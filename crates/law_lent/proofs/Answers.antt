@@ -3,7 +3,7 @@ use mathlib.Core.Path.{◌≡◌, refl, subst}
 use Prim.Native.Nat.{ℕ, ◌<◌, ◌^◌}
 use mathlib.Core.List.{[], ◌∷◌, List}
 use seplogic.Ra.Ura.{Ura}
-use mir.Syntax.{Name, Place, Opd as Operand, w32, Body as Code, seq, call}
+use mir.Syntax.{Callee, Place, Opd as Operand, w32, Body as Code, seq, call}
 use mir.Val.{Val, vint}
 use base.Logic.{ent, emp, snd∗, ex_e}
 use prog.Wp.{Calls, Loops, Env}
@@ -62,7 +62,7 @@ module _ {M : Type 1} (𝓤 : Ura M) (R : RattleType) (number : R.Denot → ℕ)
           (λ n. ex_e 𝓤 _ (λ ws. snd∗ 𝓤 (sem 𝓛 (lasts (by_value R) tt (a, tt) ws)) (fact 𝓤 (n ≡ number a))))
 
 module _ {M : Type 1} {𝓤 : Ura M} {𝓛 : Logic 𝓤} {Γ : List (Item 𝓤)} {C : Calls 𝓤 𝓛.H} {Λ : Loops 𝓤 𝓛.H}
-    {E : Env 𝓤 𝓛.H} {Q : Post 𝓤 𝓛.H} {f : Name} {xs : List Operand} {d : Place} {rest : Code} (R : RattleType) (number : R.Denot → ℕ) where
+    {E : Env 𝓤 𝓛.H} {Q : Post 𝓤 𝓛.H} {f : Callee} {xs : List Operand} {d : Place} {rest : Code} (R : RattleType) (number : R.Denot → ℕ) where
   open 𝓛 use {H}
 
   pub calls_number : Go {0} → FmC 𝓤 H 𝓛.laws C → Makes 𝓛 R (Is R) → Triple 𝓤 (C f) (Numbers 𝓤 R number 𝓛)

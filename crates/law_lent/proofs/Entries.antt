@@ -9,7 +9,7 @@ use lib.Dec.{ltb, ltb→lt, nltb→le, T as Holds}
 use lib.ListN.{length, get_or, set, length-set}
 use lib.Seq.{set-get_or, set_out}
 use seplogic.Ra.Ura.{Ura}
-use seplogic.Ra.TreeShare.{full_share}
+use base.Fraction.{full_share}
 use mir.Syntax.{Ty, ty_bool, ty_int, ty_ptr, w64, deref, field, place, copy, int, rv_opd, op2, mul, lt, unsigned, offset, addr_of}
 use mir.Syntax.{Body as Code, seq, assign, cond, skip}
 use mir.Val.{Val, vint, vbool, vptr}
@@ -30,8 +30,8 @@ use denote.Index.{place_is, others, takes, puts}
 use denote.Steps.{owned, facts}
 use denote.Struct.Steps.{spelt}
 use denote.Struct.Laws as LL
-use borrow.Struct.Behind.{put_at}
-use borrow.Struct.Items.{cut-records}
+use denote.Struct.Loose.{loosens}
+use borrow.Struct.Behind.{put_at_lem}
 use Rattle.spec_model.specs.Entries.{free_entry}
 use Rattle.spec_model.specs.declared.Entry.{Entry}
 use Rattle.spec_model.specs.declared.Table.{Table}
@@ -76,8 +76,8 @@ module _ {M : Type 1} {𝓤 : Ura M} (𝓛 : Logic 𝓤) (s : Share) (t : Table)
   entry_taken h =
       qed 𝓛 (‵ (table_at s t b o) ∷ []) ∵
       use1 𝓛 (‵ (all_at xs) ⊛ raw (wand 𝓤 ⟦ all_at ys ⟧ ⟦ table_at s (put_in t i y) b o ⟧))
-      (cut-records 𝓛 s T.the_row N.the_type places head_bytes t (put_in t i y) xs ys (b, o)
-      (put_at 𝓛 s T.the_type T'.the_laws entries_field head_bytes refl refl (b, o) t (put_in t i y) ((T.struct).as_values t) ys refl refl)) $
+      (put_at_lem 𝓛 s T.the_type (loosens (T.the_type).parts T'.the_laws) entries_field head_bytes refl refl (b, o) t (put_in t i y)
+      ((T.struct).as_values t) ys refl refl) $
       split ! $
       use1 𝓛 (‵ ((arr_parts (shares N.the_row) places).part s xs b (first_offset o))) (Array-apart 𝓛 N.the_row s tt places xs b (first_offset o)) $
       fsplit ! $ feq_l ! (λ l. let h' : i < length xs = subst (λ n. i < n) (sym l) h in

@@ -6,7 +6,7 @@ use mathlib.Core.List.{[], ◌∷◌, List}
 use mathlib.Core.Option.{Option, none, some}
 use lib.ListN.{get_or, set}
 use seplogic.Ra.Ura.{Ura}
-use seplogic.Ra.TreeShare.{full_share}
+use base.Fraction.{full_share}
 use lib.Dec.{T as Holds}
 use mir.Syntax.{Ty, w32, Width, int_big, deref, place, copy, rv_opd, Body as Code, seq, assign}
 use mir.Val.{Val, vint, vptr, WT, Fits, has_ty}

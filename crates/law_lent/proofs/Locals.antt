@@ -9,7 +9,7 @@ use lib.ListN.{get_or, set}
 use lib.Seq.{set-get_or}
 use lib.Dec.{T as Holds}
 use seplogic.Ra.Ura.{Ura}
-use seplogic.Ra.TreeShare.{full_share}
+use base.Fraction.{full_share}
 use mir.Syntax.{Sym, Ty, Tys, ty_enum, ty_struct, ttnil, Local, local, Fn, field, place, copy, Rv as RValue, Body as Code, seq, assign}
 use mir.Val.{Val, Vals, vstruct, WT, has_ty}
 use mir.Fields.{get_v}

@@ -6,7 +6,7 @@ use mathlib.Core.Bool.{Bool, true, false, not}
 use lib.Dec.{T as Holds}
 use mathlib.Core.List.{[], ◌∷◌, List}
 use seplogic.Ra.Ura.{Ura}
-use mir.Syntax.{Name, Place, Opd as Operand, Body as Code, seq, call, cond, skip}
+use mir.Syntax.{Callee, Place, Opd as Operand, Body as Code, seq, call, cond, skip}
 use mir.Val.{Val, vbool}
 use base.Logic.{SProp, ent, emp}
 use base.Fml.{ftrue}
@@ -56,7 +56,7 @@ module _ {M : Type 1} {𝓤 : Ura M} {𝓛 : Logic 𝓤} {Γ : List (Item 𝓤)}
       regoal ! (λ z. lands C Λ E d z rest Q) (ap only (tells r (w ∷ []) is)) refl $ k (subst (Is R r) (tells r (w ∷ []) is) is)
 
 module _ {M : Type 1} {𝓤 : Ura M} {𝓛 : Logic 𝓤} {Γ : List (Item 𝓤)} {C : Calls 𝓤 𝓛.H} {Λ : Loops 𝓤 𝓛.H}
-    {E : Env 𝓤 𝓛.H} {Q : Post 𝓤 𝓛.H} {f : Name} {xs : List Operand} {d : Place} {rest : Code} where
+    {E : Env 𝓤 𝓛.H} {Q : Post 𝓤 𝓛.H} {f : Callee} {xs : List Operand} {d : Place} {rest : Code} where
   -- the call at c's ghost value x; v spells out the machine value of its result
   open 𝓛 use {H}
 
