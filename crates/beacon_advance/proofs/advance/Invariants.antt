@@ -1,4 +1,4 @@
-use Rattle.std.proofs.Common.{◌≡◌, ◌-◌, ◌≤◌}
+use Rattle.std.proofs.Common.{◌≡◌, ◌≤◌}
 use Rattle.spec_model.specs.Tables.{with_entries}
 use Rattle.beacon_advance.specs.Zipped.{zipped}
 use Rattle.beacon_advance.specs.Moving.{after_grant}
@@ -6,6 +6,3 @@ use Rattle.beacon_advance.proofs.advance.Given as goal
 
 abbrev pub invariant-loop-i : goal.invariant-loop-i
 invariant-loop-i l = (l.i ≤ l.used) × (l.next ≡ with_entries l.initial.next (zipped after_grant l.i l.s.grants l.initial.next.entries))
-
-abbrev pub decreases-loop-i : goal.decreases-loop-i
-decreases-loop-i l = l.used - l.i

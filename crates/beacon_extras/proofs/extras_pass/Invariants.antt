@@ -1,11 +1,6 @@
--- `beacon_extras::extras_pass` meets its contract. The invariant: the sums of the first i places. The measure is the number of places left.
--- Assumes nothing.
-use Rattle.std.proofs.Common.{◌-◌}
+-- `beacon_extras::extras_pass` meets its contract. The invariant: the sums of the first i places. Assumes nothing.
 use Rattle.beacon_extras.specs.Extras.{Added}
 use Rattle.beacon_extras.proofs.extras_pass.Given as goal
 
 abbrev pub invariant-loop-i : goal.invariant-loop-i
 invariant-loop-i l = Added l.t l.used l.i l.sums
-
-abbrev pub decreases-loop-i : goal.decreases-loop-i
-decreases-loop-i l = l.used - l.i

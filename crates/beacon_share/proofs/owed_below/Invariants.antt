@@ -1,6 +1,5 @@
--- `beacon_share::owed_below` meets its contract. The invariant: what is owed at lower ranks among the first i places. The measure is the number of
--- places left. Assumes nothing.
-use Rattle.std.proofs.Common.{◌≡◌, ℕ, ◌*◌, ◌-◌, ◌≤◌, cond}
+-- `beacon_share::owed_below` meets its contract. The invariant: what is owed at lower ranks among the first i places. Assumes nothing.
+use Rattle.std.proofs.Common.{◌≡◌, ℕ, ◌*◌, ◌≤◌, cond}
 use Rattle.std.specs.Prelude.{ltb}
 use Rattle.base_lists.specs.Loops.{summed}
 use Rattle.table_queue.specs.Queues.{largest32}
@@ -14,6 +13,3 @@ lower own k o = cond (ltb k own) o 0
 abbrev pub invariant-loop-i : goal.invariant-loop-i
 invariant-loop-i l =
     (l.i ≤ l.used) × (l.all ≡ summed (λ v. v) l.i (zip (lower l.own) l.ranks l.owed)) × (l.all ≤ largest32 * l.i)
-
-abbrev pub decreases-loop-i : goal.decreases-loop-i
-decreases-loop-i l = l.used - l.i

