@@ -13,10 +13,11 @@ use Rattle.ahead_figures.specs.Columns.{Columns, columns}
 use Rattle.ahead_figures.specs.Figures.{longest}
 use Rattle.ahead_serve.specs.Serving.{left_of, unpaid, Ranked}
 use Rattle.ahead_next.specs.Ends.{first_end}
-use Rattle.law_figures.specs.Shows.{for_load, for_end}
-use Rattle.law_figures.specs.Looking.{ahead, Begins, Looking, Follows, first_full, looking_first, for_pay, for_serve, for_pass, at_soon}
-use Rattle.law_figures.specs.Looking.{looking_done, looking_late, looking_next}
-use Rattle.law_figures.specs.Evenly.{shared, looking_even}
+use Rattle.law_figures.proofs.Shows.{for_load, for_end}
+use Rattle.law_figures.specs.Looking.{ahead, Begins, Looking, Follows}
+use Rattle.law_figures.proofs.Looking.{first_full, looking_first, for_pay, for_serve, for_pass, at_soon}
+use Rattle.law_figures.proofs.Looking.{looking_done, looking_late, looking_next}
+use Rattle.law_figures.proofs.Evenly.{shared, looking_even}
 use Rattle.ahead_loop.proofs.goes_well.Statement.{statement}
 use Rattle.ahead_loop.proofs.goes_well.Tie as tie
 

@@ -3,7 +3,7 @@ use borrow.Author.Rules.{rules}
 use Rattle.spec_model.specs.Tables.{put_in}
 use Rattle.ahead_figures.specs.Columns.{Columns, columns, columns_of, entered, columns_free, columns_entered}
 use Rattle.law_figures.specs.Looking.{Begins}
-use Rattle.law_figures.specs.Begin.{begins, load_small, put_used}
+use Rattle.law_figures.proofs.Begin.{begins, load_small, put_used}
 use Rattle.ahead_loop.proofs.keeps_up_ahead.Statement.{statement}
 use Rattle.ahead_loop.proofs.keeps_up_ahead.Tie as tie
 
