@@ -34,7 +34,7 @@ use Rattle.beacon_share.specs.Shares.{sharing_of, grant_of, grants_right}
 use Rattle.beacon_share.specs.declared.Sharing.{Sharing}
 use Rattle.beacon_order.specs.Filled.{filled, filled_behind, filled_all}
 use Rattle.beacon_order.specs.Listed.{listed, order_of}
-use Rattle.beacon_order.specs.TiePlaces.{listed_ties, listed_places_lem, listed_length}
+use Rattle.beacon_order.proofs.TiePlaces.{listed_ties, listed_places_lem, listed_length}
 use Rattle.beacon_order.specs.declared.Order.{Order}
 use Rattle.beacon_plan.specs.Rows.{row_from, row_jobs, row_plan, Rows, Spare}
 use Rattle.beacon_plan.specs.Needs.{needs_row, need_rows, Counted, needs_map}

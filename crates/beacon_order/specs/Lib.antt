@@ -5,4 +5,3 @@ pub mod Listed
 pub mod Keys
 pub mod Inserted
 pub mod Filling
-pub mod TiePlaces

@@ -14,7 +14,7 @@ use Rattle.table_queue.specs.declared.Queue.{Queue}
 use Rattle.beacon_share.specs.Shares.{shares_of, grant_at, sharing_of, grant_of, grant_found}
 use Rattle.beacon_share.specs.declared.Shares.{Shares}
 use Rattle.beacon_order.specs.Listed.{order_of}
-use Rattle.beacon_order.specs.TiePlaces.{ranks_most}
+use Rattle.beacon_order.proofs.TiePlaces.{ranks_most}
 use Rattle.beacon_order.specs.declared.Order.{Order}
 use Rattle.beacon_jobs.specs.Needs.{need_by, Narrow}
 use Rattle.beacon_jobs.specs.Limits.{narrow_places}

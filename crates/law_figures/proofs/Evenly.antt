@@ -22,7 +22,8 @@ use Rattle.ahead_figures.specs.Figures.{never, begin_of}
 use Rattle.ahead_figures.specs.Totals.{total, total_entries, total_same}
 use Rattle.ahead_even.specs.Need.{even_need, evenly_free, evenly_fraction, even_enough}
 use Rattle.ahead_even.specs.Needs.{need_in, even_needs, shares, Shared, even_none, even_whole, even_transfer}
-use Rattle.law_figures.specs.Shows.{Shows, place, end_held, ends_ahead}
+use Rattle.law_figures.specs.Shows.{Shows}
+use Rattle.law_figures.proofs.Shows.{place, end_held, ends_ahead}
 use Rattle.law_figures.specs.Looking.{Looking}
 
 module _ {now used : ℕ} {t : Table} {c : Columns} (s : Shows now used t c) (w : Tidy t) where

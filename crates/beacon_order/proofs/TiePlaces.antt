@@ -22,7 +22,8 @@ use Rattle.law_steps.proofs.Grants.{once_tail, once_apart}
 use Rattle.law_steps.proofs.Places.{tidy_held}
 use Rattle.law_steps.specs.Ranks.{rank, rank_most}
 use Rattle.law_steps.proofs.Ranks.{held_rank, rank_free}
-use Rattle.beacon_order.specs.Ties.{ties, sort_ties, ties_le}
+use Rattle.beacon_order.specs.Ties.{ties}
+use Rattle.beacon_order.proofs.Ties.{sort_ties, ties_le}
 use Rattle.beacon_order.specs.Sorts.{Pairs, end, with, pairs_of, sort_ext, sort_map, keep_ext, keep_front, keep_map}
 use Rattle.beacon_order.specs.Listed.{places_from, is_taken, taken_from, by_rank, listed}
 use Rattle.beacon_order.specs.Keys.{listed_within}

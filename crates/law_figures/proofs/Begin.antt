@@ -14,7 +14,8 @@ use Rattle.law_model.specs.Frames.{most_slots}
 use Rattle.law_steps.proofs.Closed.{load_most}
 use Rattle.table_queue.specs.Queues.{Used}
 use Rattle.ahead_figures.specs.Columns.{Columns, figures_at, columns_of, columns_sized, columns_at}
-use Rattle.law_figures.specs.Shown.{Shown, shown_first}
+use Rattle.law_figures.specs.Shown.{Shown}
+use Rattle.law_figures.proofs.Shown.{shown_first}
 use Rattle.law_figures.specs.Looking.{Begins}
 
 -- ---- a table
