@@ -9,11 +9,12 @@ use Rattle.ahead_figures.specs.Figures.{longest, never}
 use Rattle.ahead_serve.specs.Serving.{due_of, left_of, unpaid, Ranked}
 use Rattle.ahead_next.specs.Ends.{first_end}
 use Rattle.ahead_pass.specs.Passed.{Roomy, PassedEnds}
-use Rattle.law_figures.specs.Shows.{for_load, for_end}
+use Rattle.law_figures.proofs.Shows.{for_load, for_end}
 use Rattle.law_figures.specs.Onward.{owing}
-use Rattle.law_figures.specs.Looking.{Looking, first_full, looking_first, for_pay, for_serve, for_pass, at_soon}
-use Rattle.law_figures.specs.Looking.{looking_done, looking_late, looking_next}
-use Rattle.law_figures.specs.Evenly.{shared, looking_even}
+use Rattle.law_figures.specs.Looking.{Looking}
+use Rattle.law_figures.proofs.Looking.{first_full, looking_first, for_pay, for_serve, for_pass, at_soon}
+use Rattle.law_figures.proofs.Looking.{looking_done, looking_late, looking_next}
+use Rattle.law_figures.proofs.Evenly.{shared, looking_even}
 use Rattle.ahead_loop.proofs.goes_well.Goals as goal
 
 -- ---- where the function begins

@@ -9,7 +9,7 @@ use Rattle.ahead_figures.specs.Columns.{Columns, columns, columns_of, entered, c
 use Rattle.ahead_figures.specs.Figures.{figures_of}
 use Rattle.ahead_figures.specs.declared.Figures.{Figures}
 use Rattle.law_figures.specs.Looking.{Begins}
-use Rattle.law_figures.specs.Begin.{begins, load_small, put_used}
+use Rattle.law_figures.proofs.Begin.{begins, load_small, put_used}
 use Rattle.ahead_loop.proofs.keeps_up_ahead.Goals as goal
 
 pub read_table-requires-clause-periods_value : goal.read_table-requires-clause-periods_value
