@@ -72,12 +72,12 @@ pub running_on : {ended : Bool} {plan : List ℕ} {r : Flow} {words : List ℕ} 
     → Running false plan r words
 running_on e f = rw e at f
 
-output_is : (ended : Bool) (input : List ℕ) → header_row ++ rows_to ended first_shelf input ≡ output_to ended input
+pub output_is : (ended : Bool) (input : List ℕ) → header_row ++ rows_to ended first_shelf input ≡ output_to ended input
 unfolding served
 output_is true input = whole_output (input ∷ []) ∙ ap output_of (append-nil input)
 output_is false input = refl
 
-pub ran : {ended : Bool} {plan : List ℕ} {r : Flow} {words : List ℕ} → Running ended plan r words → Ran ended plan r words
+unfoldable pub ran : {ended : Bool} {plan : List ℕ} {r : Flow} {words : List ℕ} → Running ended plan r words → Ran ended plan r words
 ran {ended} (input, f) =
     record {
       input = input;

@@ -9,7 +9,9 @@ ghost use Rattle.spec_shelf.specs.Room.{answer_most, Ready};
 ghost use Rattle.shelf_state.specs.Cutting.{first_shelf, last_rows};
 ghost use Rattle.shelf_write.specs.Flows.{Flowed, rows_to};
 ghost use Rattle.shelf_write.specs.Taken.{Took};
-ghost use Rattle.shelf.specs.Runs.{ends, gave, reads_on, most_bytes, Ran, message_of};
+ghost use Rattle.std.specs.Io.KnownBytes.{IsAtEnd};
+ghost use Rattle.shelf.specs.Runs.{ends, gave, reads_on, most_bytes, Ran};
+ghost use Rattle.shelf.specs.Streams.{Streams, stop_of, Stopped, message_of};
 
 use shelf_state::Shelf;
 use shelf_write::Flow;
@@ -128,6 +130,9 @@ fn serve_all<R: Read, W: Write>(
     ensures is { Ran (ends result.got) plan.old result.flow plan.new }
     ensures all { (result.flow.taken ≤ result.given) × (result.flow.well ≡ true → result.flow.taken ≡ result.given) }
     ensures stops { result.given < most_bytes → reads_on result.got result.flow.well ≡ false }
+    ensures streams { Streams (ends result.got) plan.old result.flow plan.new result.given (R.remaining from.old) (R.remaining from.new)
+        (W.contents to.old) (W.contents to.new) }
+    ensures end { 0 < length input.old → ends result.got ≡ true → IsAtEnd (R.remaining from.new) }
 {
     let mut flow = Flow {
         shelf: s,
@@ -149,41 +154,67 @@ fn serve_all<R: Read, W: Write>(
     }
 }
 
-// Says what failed, where something did.
-fn tell<W: Write>(to: &mut W, got: io::Result<usize>, well: bool) -> bool
-    ensures { Took (W.contents to.old) (W.contents to.new) result (message_of got well) }
+// How the program stops.
+#[derive(Clone, Copy)]
+enum Stop {
+    // At the end of the input, every row of the output taken.
+    Done,
+    ReadingFailed,
+    WritingFailed,
+    // After so many bytes that no input comes to.
+    Full,
+}
+
+fn stop_of(got: io::Result<usize>, well: bool) -> Stop
+    ensures { result ≡ stop_of got well }
 {
     if !well {
-        return shelf_write::hand(to, b"shelf: writing failed\n");
+        return Stop::WritingFailed;
     }
     match got {
-        Ok(_) => true,
-        Err(_) => shelf_write::hand(to, b"shelf: reading failed\n"),
+        Err(_) => Stop::ReadingFailed,
+        Ok(0) => Stop::Done,
+        Ok(_) => Stop::Full,
+    }
+}
+
+// The whole program, over any reader and writer.
+fn serve<R: Read, W: Write>(from: &mut R, to: &mut W) -> Stop
+    ensures { Stopped result (R.remaining from.old) (R.remaining from.new) (W.contents to.old) (W.contents to.new) }
+{
+    let mut input = [0u8; 65536];
+    let mut out = [0u8; 131072];
+    let mut plan = [0u32; spec_model::PLAN_WORDS];
+    let at = row_print::header_row(&mut out, 0);
+    let header = shelf_write::put(to, &out, at);
+    if !header.well {
+        return Stop::WritingFailed;
+    }
+    let first = shelf_state::first_shelf();
+    let all = serve_all(
+        first,
+        header.bytes,
+        &mut input,
+        &mut plan,
+        &mut out,
+        from,
+        to,
+    );
+    stop_of(all.got, all.flow.well)
+}
+
+// Says what failed, where something did. Whether that was said makes no difference.
+fn tell<W: Write>(to: &mut W, stop: Stop) -> bool
+    ensures { Took (W.contents to.old) (W.contents to.new) result (message_of stop) }
+{
+    match stop {
+        Stop::ReadingFailed => shelf_write::hand(to, b"shelf: reading failed\n"),
+        Stop::WritingFailed => shelf_write::hand(to, b"shelf: writing failed\n"),
+        Stop::Done | Stop::Full => true,
     }
 }
 
 fn main(rt: HostRuntime) {
-    let mut input = [0u8; 65536];
-    let mut out = [0u8; 131072];
-    let mut plan = [0u32; spec_model::PLAN_WORDS];
-    let mut from = rt.stdin();
-    let mut to = rt.stdout();
-    let mut said = rt.stderr();
-    let at = row_print::header_row(&mut out, 0);
-    let header = shelf_write::put(&mut to, &out, at);
-    if header.well {
-        let first = shelf_state::first_shelf();
-        let run = serve_all(
-            first,
-            header.bytes,
-            &mut input,
-            &mut plan,
-            &mut out,
-            &mut from,
-            &mut to,
-        );
-        tell(&mut said, run.got, run.flow.well);
-    } else {
-        tell(&mut said, Ok(0), false);
-    }
+    let stop = serve(&mut rt.stdin(), &mut rt.stdout());
+    tell(&mut rt.stderr(), stop);
 }
