@@ -1,7 +1,7 @@
 -- What the program reads and writes, over a reader and a writer that say which bytes they have left and which they hold. Assumes nothing.
-use Rattle.std.specs.Prelude.{◌≡◌, refl, Bool, true, false, Option, None, Some, List, [], ◌++◌, ℕ, zero, suc, ◌+◌, ◌≤◌, ◌<◌, ◌^◌, Result, Ok, Err, codes, length, take, drop}
+use Rattle.std.specs.Prelude.{◌≡◌, refl, Bool, true, false, Option, None, Some, List, [], ◌++◌, ℕ, zero, suc, ◌+◌, ◌≤◌, ◌<◌, Result, Ok, Err, codes, length, take, drop}
 use Rattle.std.specs.Io.{ReadsAtMost}
-use Rattle.std.specs.Io.KnownBytes.{Appends, Consumes, Keeps, IsAtEnd, ReadConsumes}
+use Rattle.std.specs.Io.KnownBytes.{Appends, Consumes, IsAtEnd, ReadConsumes}
 use Rattle.std.proofs.Common.{◌∙◌, sym, ap, ap₂, subst, arith, append_assoc, append-nil, length-append, length-take, take-append-drop}
 use Rattle.std.proofs.Math.Nat.{min-eq_left, zero-min}
 use Rattle.std.proofs.Math.Seq.{take_all, take-take, take-append-add, take-append_seam}
@@ -183,10 +183,11 @@ streams_read got xs g well all bound bytes n most f t =
 
 -- ---- laws of the end: what is written is a beginning of the output
 before_rest : (k : ℕ) (rows rest : List ℕ) → (n : ℕ) × (take k rows ≡ take n (rows ++ rest))
-before_rest k rows rest =
-    (length (take k rows),
-    sym (take-append_seam (take k rows) (drop k rows ++ rest))
-    ∙ ap (take (length (take k rows))) (sym (append_assoc (take k rows) (drop k rows) rest) ∙ ap (λ l. l ++ rest) (take-append-drop k rows)))
+before_rest k rows rest = (
+  length (take k rows),
+  sym (take-append_seam (take k rows) (drop k rows ++ rest))
+      ∙ ap (take (length (take k rows))) (sym (append_assoc (take k rows) (drop k rows) rest) ∙ ap (λ l. l ++ rest) (take-append-drop k rows)),
+)
 
 regroup : (h a b l : List ℕ) → h ++ ((a ++ b) ++ l) ≡ (h ++ a) ++ (b ++ l)
 regroup h a b l = ap (λ x. h ++ x) (append_assoc a b l) ∙ sym (append_assoc h a (b ++ l))

@@ -1,4 +1,4 @@
-use Rattle.std.proofs.Common.{◌≡◌, true, refl, ap₂, ◌∙◌, arith, rules, length, take}
+use Rattle.std.proofs.Common.{◌≡◌, true, ap₂, ◌∙◌, arith, rules, length, take}
 use Rattle.spec_shelf.specs.Printed.{header_row}
 use Rattle.shelf_write.specs.Taken.{first_written, took_rows}
 use Rattle.shelf.specs.Streams.{stopped, stopped_early}

@@ -1,9 +1,9 @@
-use Rattle.std.proofs.Common.{◌≡◌, ◌≤◌, ◌+◌, true, false, length, take, refl, sym, ap, ◌∙◌, arith, rules}
+use Rattle.std.proofs.Common.{◌≡◌, true, false, length, refl, sym, ap, ◌∙◌, arith}
 use Rattle.law_rows.specs.Ready.{ready_first}
 use Rattle.spec_shelf.specs.Room.{Ready}
 use Rattle.shelf_state.specs.Cutting.{first_shelf}
 use Rattle.shelf_write.specs.declared.Flow.{Flow}
-use Rattle.shelf.specs.Runs.{ends, gave, gave_some}
+use Rattle.shelf.specs.Runs.{ends, gave_some}
 use Rattle.shelf.specs.Streams.{going_none, going_read, going_on, streams_read}
 use Rattle.shelf.proofs.serve_all.Goals as goal
 

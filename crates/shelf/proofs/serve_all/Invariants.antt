@@ -1,11 +1,6 @@
 -- All that reads gave is served, and every write took what it was handed.
 use Rattle.std.proofs.Common.{◌≡◌, ◌-◌, ◌<◌, true, false, length}
-use Rattle.std.specs.Io.KnownBytes.{Appends, Consumes}
-use Rattle.spec_shelf.specs.Printed.{header_row}
 use Rattle.spec_shelf.specs.Room.{Ready}
-use Rattle.shelf_state.specs.Cutting.{first_shelf}
-use Rattle.shelf_write.specs.Flows.{rows_to, FlowedAfter}
-use Rattle.shelf_write.specs.Taken.{Took}
 use Rattle.shelf.specs.Runs.{most_bytes}
 use Rattle.shelf.specs.Streams.{Going}
 use Rattle.shelf.proofs.serve_all.Given as goal

@@ -1,5 +1,4 @@
-use Rattle.std.proofs.Common.{◌≡◌, [], refl, ap, ◌∙◌, subst, sym, arith, rules}
-use Rattle.shelf_state.specs.Parts.{taken_then}
+use Rattle.std.proofs.Common.{[], refl, ◌∙◌, arith}
 use Rattle.shelf_write.specs.Flows.{flowed_none, flowed_part}
 use Rattle.shelf.specs.Streams.{took_no_rows, took_part}
 use Rattle.shelf.proofs.serve_chunk.Goals as goal

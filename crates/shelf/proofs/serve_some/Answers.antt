@@ -1,4 +1,4 @@
-use Rattle.std.proofs.Common.{◌≡◌, ◌^◌, ◌<◌, ◌≤◌, true, false, [], length, take, refl, sym, ap, ◌∙◌, subst, arith, rules, length-take}
+use Rattle.std.proofs.Common.{◌≡◌, ◌^◌, ◌<◌, ◌≤◌, true, false, [], take, refl, arith, length-take}
 use Rattle.std.proofs.Math.Seq.{take-take}
 use Rattle.shelf_state.specs.Sizes.{last_most}
 use Rattle.shelf_write.specs.Flows.{flowed_none, flowed_last}

@@ -1,4 +1,4 @@
-use Rattle.std.proofs.Common.{length, take, subst, sym, arith}
+use Rattle.std.proofs.Common.{subst, sym, arith}
 use Rattle.std.specs.Io.KnownBytes.{Appends}
 use Rattle.std.proofs.KnownBytes.{Appends-trans}
 use Rattle.shelf_state.specs.Parts.{taken_then, left_length}
