@@ -1,10 +1,9 @@
 -- What the program did when it stops. What a read gives and what becomes of a write no contract can say. So there is an input, as long as
 -- the reads gave, and the shelf, the plan's memory and the count of the bytes handed to writes are those of that input. Assumes nothing.
-use Rattle.std.specs.Prelude.{◌≡◌, refl, Bool, true, false, cond, List, [], ◌∷◌, ◌++◌, ℕ, zero, suc, ◌-◌, ◌^◌, ℤ, pos, negsuc, length}
+use Rattle.std.specs.Prelude.{◌≡◌, refl, Bool, true, false, cond, List, [], ◌∷◌, ◌++◌, ℕ, zero, suc, ◌-◌, ◌^◌, min, Result, Ok, Err, length}
+use Rattle.std.specs.Io.{ReadsAtMost}
 use Rattle.std.proofs.Common.{ap, ◌∙◌, append-nil, arith}
-use Rattle.std.proofs.Math.Nat.{min-eq_left, zero-min}
-use Rattle.libc.specs.Io.{Moved}
-use Rattle.io.specs.Counts.{clamp_len}
+use Rattle.std.proofs.Math.Nat.{zero-min}
 use Rattle.spec_shelf.specs.Printed.{header_row}
 use Rattle.spec_shelf.specs.Meaning.{output_of}
 use Rattle.shelf_state.specs.Cutting.{first_shelf}
@@ -12,18 +11,23 @@ use Rattle.shelf_state.specs.Whole.{chunk_rows, shelf_after, served, whole_outpu
 use Rattle.shelf_write.specs.declared.Flow.{Flow}
 use Rattle.shelf_write.specs.Flows.{counted, rows_to, plan_to, FlowedAfter}
 
--- ---- what a read answers
+-- ---- what a read answers: a number of bytes, or an error
 -- no byte: the input has ended
-abbrev pub ends : ℤ → Bool
-ends (pos zero) = true
-ends (pos (suc n)) = false
-ends (negsuc n) = false
+abbrev pub ends : {E : Type 0} → Result ℕ E → Bool
+ends (Ok zero) = true
+ends (Ok (suc n)) = false
+ends (Err e) = false
+
+-- how many bytes of so many it gave: none where it failed
+abbrev pub gave : {E : Type 0} → Result ℕ E → ℕ → ℕ
+gave (Ok n) most = min n most
+gave (Err e) most = 0
 
 -- another read follows where this one gave bytes, and every write took what it was handed
-abbrev pub reads_on : ℤ → Bool → Bool
-reads_on (pos zero) well = false
-reads_on (pos (suc n)) well = well
-reads_on (negsuc n) well = false
+abbrev pub reads_on : {E : Type 0} → Result ℕ E → Bool → Bool
+reads_on (Ok zero) well = false
+reads_on (Ok (suc n)) well = well
+reads_on (Err e) well = false
 
 -- a number of bytes that no input comes to: there it stops at the latest
 abbrev pub most_bytes : ℕ
@@ -43,20 +47,21 @@ pub record Ran (ended : Bool) (plan : List ℕ) (r : Flow) (words : List ℕ) : 
   pub memory : words ≡ plan_to ended first_shelf input plan
 
 -- ---- laws of what a read answers, by how many of its bytes count
-pub gave_none : (got : ℤ) (n : ℕ) (well : Bool) → Moved n got → clamp_len got n ≡ 0 → reads_on got well ≡ false
-gave_none (pos zero) n well m e = refl
-gave_none (pos (suc k)) n well m e = absurd (omega (arith, min-eq_left m, e))
-gave_none (negsuc k) n well m e = refl
+pub gave_none : {E : Type 0} (got : Result ℕ E) (xs : List ℕ) (well : Bool) → ReadsAtMost got xs → gave got (length xs) ≡ 0
+    → reads_on got well ≡ false
+gave_none (Ok zero) xs well m e = refl
+gave_none (Ok (suc k)) xs well m e = absurd (omega (arith, m.0))
+gave_none (Err f) xs well m e = refl
 
-pub gave_some : (got : ℤ) (n : ℕ) → (clamp_len got n ≡ 0 → ⊥) → ends got ≡ false
-gave_some (pos zero) n h = absurd (h (zero-min n))
-gave_some (pos (suc k)) n h = refl
-gave_some (negsuc k) n h = refl
+pub gave_some : {E : Type 0} (got : Result ℕ E) (n : ℕ) → (gave got n ≡ 0 → ⊥) → ends got ≡ false
+gave_some (Ok zero) n h = absurd (h (zero-min n))
+gave_some (Ok (suc k)) n h = refl
+gave_some (Err f) n h = refl
 
-pub write_failed : (got : ℤ) {well : Bool} → well ≡ false → reads_on got well ≡ false
-write_failed (pos zero) e = refl
-write_failed (pos (suc k)) e = e
-write_failed (negsuc k) e = refl
+pub write_failed : {E : Type 0} (got : Result ℕ E) {well : Bool} → well ≡ false → reads_on got well ≡ false
+write_failed (Ok zero) e = refl
+write_failed (Ok (suc k)) e = e
+write_failed (Err f) e = refl
 
 -- ---- laws of a run
 -- the reads' bytes so far
@@ -67,12 +72,12 @@ pub running_on : {ended : Bool} {plan : List ℕ} {r : Flow} {words : List ℕ} 
     → Running false plan r words
 running_on e f = rw e at f
 
-output_is : (ended : Bool) (input : List ℕ) → header_row ++ rows_to ended first_shelf input ≡ output_to ended input
+pub output_is : (ended : Bool) (input : List ℕ) → header_row ++ rows_to ended first_shelf input ≡ output_to ended input
 unfolding served
 output_is true input = whole_output (input ∷ []) ∙ ap output_of (append-nil input)
 output_is false input = refl
 
-pub ran : {ended : Bool} {plan : List ℕ} {r : Flow} {words : List ℕ} → Running ended plan r words → Ran ended plan r words
+unfoldable pub ran : {ended : Bool} {plan : List ℕ} {r : Flow} {words : List ℕ} → Running ended plan r words → Ran ended plan r words
 ran {ended} (input, f) =
     record {
       input = input;

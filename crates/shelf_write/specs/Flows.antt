@@ -43,7 +43,7 @@ counted_append xs ys = ap (λ n. n % 2 ^ 64) (length-append xs ys) ∙ add-mod (
 pub counted_few : {n : ℕ} (bytes : List ℕ) → n < 2 ^ 64 → n ≡ length bytes → n ≡ counted bytes
 counted_few bytes h e = e ∙ sym (mod-eq_of_lt (rw e at h))
 
-rows_then : (ended : Bool) (s : Shelf) (p q : List ℕ) → chunk_rows s p ++ rows_to ended (shelf_after s p) q ≡ rows_to ended s (p ++ q)
+pub rows_then : (ended : Bool) (s : Shelf) (p q : List ℕ) → chunk_rows s p ++ rows_to ended (shelf_after s p) q ≡ rows_to ended s (p ++ q)
 rows_then true s p q = rw (rows_append s p q, after_both s p q) (sym (append_assoc (chunk_rows s p) _ _))
 rows_then false s p q = sym (rows_append s p q)
 
