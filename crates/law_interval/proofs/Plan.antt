@@ -1,6 +1,6 @@
 -- The plan of a well-formed table: its records are exactly the longest runs of step D's slots, in rising order; there are at most
 -- 1,024 of them; and each names a request in range and one of its jobs, and lies within the interval. Assumes nothing.
-use Rattle.std.specs.Prelude.{◌≡◌, ◌⊎◌, true, ℕ, zero, suc, ◌*◌, ◌≤◌, ◌<◌, ltb, length, replicate}
+use Rattle.std.specs.Prelude.{◌≡◌, ◌⊎◌, ℕ, zero, suc, ◌*◌, ◌≤◌, ltb, length, replicate}
 use Rattle.std.proofs.Common.{ap, ◌∙◌, inl, inr, zero-le, zero-add, mul-le-mul_right, arith, length-append, eq-eqb, le-ltb}
 use mathlib.Core.List.{List}
 use Rattle.std.proofs.Math.Option.{none}
@@ -11,14 +11,13 @@ use Rattle.spec_lists.specs.All.{All}
 use Rattle.base_lists.specs.All.{all_map, all_zip}
 use Rattle.base_lists.specs.Sums.{sum_most, length_keep}
 use Rattle.spec_model.specs.Frames.{slots_in, header_in, room_in}
-use Rattle.spec_model.specs.Names.{name_in_range}
 use Rattle.spec_model.specs.Entries.{is_held}
 use Rattle.spec_model.specs.declared.Frame.{Frame}
 use Rattle.spec_model.specs.declared.Name.{Name}
 use Rattle.spec_model.specs.declared.Entry.{Entry}
 use Rattle.spec_model.specs.declared.Table.{Table}
 use Rattle.spec_rules.specs.Share.{job_count, step_b, step_c}
-use Rattle.spec_rules.specs.Slots.{JobName, Slot, name_of, jobs_from, job_length, job_need, jobs_of, jobs, slots_from, runs_from, step_d, step_e}
+use Rattle.spec_rules.specs.Slots.{Slot, name_of, jobs_from, job_length, job_need, jobs_of, jobs, slots_from, runs_from, step_d, step_e}
 use Rattle.spec_model.specs.Tables.{held_of}
 use Rattle.spec_rules.specs.Calls.{plan_of}
 use Rattle.spec_rules.specs.WellFormed.{WellFormed}
@@ -35,7 +34,7 @@ use Rattle.law_slots.proofs.Runs.{runs_are, all_runs, runs_rise, runs_end, runs_
 use Rattle.law_slots.specs.Count.{to_come}
 use Rattle.law_slots.proofs.Count.{few_runs_lem, come_later}
 use Rattle.law_interval.proofs.Jobs.{jobs_sum, jobs_all, jobs_keys}
-use Rattle.law_interval.specs.Plan.{RightPlan}
+use Rattle.law_interval.specs.Plan.{Named, FewCome, RightPlan}
 
 -- ---- few records
 -- a job counts twice at most
@@ -46,15 +45,11 @@ from_come (suc n) s T need j =
     omega (arith, one_if_most (ltb 0 need), one_if_most (ltb 0 (j * T)), from_come n s T need (suc j))
 
 -- and the first, which is released at 0, once: 31 for sixteen jobs
-all_come : (n : ℕ) (s : Name) (T need : ℕ) → n ≤ 16 → sum_of (to_come 0) (jobs_from n s T need 0) ≤ 31
+all_come : FewCome
 unfolding jobs_from
 all_come zero s T need h = zero-le
 all_come (suc n) s T need h =
     omega (arith, one_if_most (ltb 0 need), one_if_false (le-ltb 0 (0 * T) (omega arith)), from_come n s T need 1)
-
--- a name that can be held, and one of its jobs
-abbrev Named : JobName → Type 0
-Named k = (name_in_range k.name ≡ true) × (k.number < 16)
 
 -- the records are those of the slots after the header
 pub plan_runs : (F : Frame) (es : List Entry) → step_e F es ≡ runs_from (header_in F) (slots_from (room_in F) (header_in F) (jobs F es))
