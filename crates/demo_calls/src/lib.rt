@@ -19,109 +19,116 @@ use call_held::Enquiry;
 use call_open::Opening;
 use spec_model::{Entry, Name, Setting, Slots, Table};
 
-pub fn line(text: &[u8]) {
-    io::write_all(1, text);
-    io::write_all(1, b"\n");
+// What becomes of text that is printed makes no difference to the calls.
+pub fn line(rt: &impl Print, text: &str) {
+    let _ = println!(rt; "{text}");
 }
 
-fn number(n: u32) {
-    io::print_decimal(1, n as u64);
+fn number(rt: &impl Print, n: u32) {
+    let _ = print!(rt; "{n}");
 }
 
-fn field(n: u32) {
-    number(n);
-    io::write_all(1, b",");
+fn field(rt: &impl Print, n: u32) {
+    number(rt, n);
+    let _ = print!(rt; ",");
 }
 
-fn name_field(name: Name) {
-    field(name.stream);
+fn name_field(rt: &impl Print, name: Name) {
+    field(rt, name.stream);
 }
 
 // Job, start and length are empty in the row of a call.
-fn end_row(answer: u32) {
-    io::write_all(1, b",,,");
-    number(answer);
-    io::write_all(1, b"\n");
+fn end_row(rt: &impl Print, answer: u32) {
+    let _ = print!(rt; ",,,");
+    number(rt, answer);
+    let _ = println!(rt;);
 }
 
-pub fn plain_row(verb: &[u8], answer: u32) {
-    io::write_all(1, verb);
-    io::write_all(1, b",,");
-    end_row(answer);
+pub fn plain_row(rt: &impl Print, verb: &str, answer: u32) {
+    let _ = print!(rt; "{verb},,");
+    end_row(rt, answer);
 }
 
-pub fn name_row(verb: &[u8], name: Name, answer: u32) {
-    io::write_all(1, verb);
-    io::write_all(1, b",");
-    name_field(name);
-    end_row(answer);
+pub fn name_row(rt: &impl Print, verb: &str, name: Name, answer: u32) {
+    let _ = print!(rt; "{verb},");
+    name_field(rt, name);
+    end_row(rt, answer);
 }
 
 // The i-th record of a plan, where the plan has that many words.
-fn slot_row(plan: &[u32], i: usize) {
+fn slot_row(rt: &impl Print, plan: &[u32], i: usize) {
     if plan.len() / spec_model::RECORD_WORDS <= i {
         return;
     }
     let r = plan_record::read_record(plan, i);
-    io::write_all(1, b"slot,");
-    name_field(r.name);
-    field(r.job);
-    field(r.start.0);
-    field(r.length.0);
-    io::write_all(1, b"\n");
+    let _ = print!(rt; "slot,");
+    name_field(rt, r.name);
+    field(rt, r.job);
+    field(rt, r.start.0);
+    field(rt, r.length.0);
+    let _ = println!(rt;);
 }
 
 // The first records of a plan, and how many they are.
-pub fn slot_rows(plan: &[u32], count: usize) -> usize
+pub fn slot_rows(rt: &impl Print, plan: &[u32], count: usize) -> usize
     ensures { result ≡ count }
 {
     let mut i = 0;
     while i < count {
-        slot_row(plan, i);
+        slot_row(rt, plan, i);
         i += 1;
     }
     i
 }
 
 // Every field of an entry.
-pub fn entry_row(e: Entry) {
-    io::write_all(1, b"entry,");
-    name_field(e.name);
-    field(e.kind);
-    field(e.parts);
-    field(e.period.0);
-    field(e.min.0);
-    field(e.max.0);
-    field(e.life.0);
-    field(e.life_left.0);
-    field(e.owed.0);
-    field(e.given.0);
-    number(e.left.0);
-    io::write_all(1, b"\n");
+pub fn entry_row(rt: &impl Print, e: Entry) {
+    let _ = print!(rt; "entry,");
+    name_field(rt, e.name);
+    field(rt, e.kind);
+    field(rt, e.parts);
+    field(rt, e.period.0);
+    field(rt, e.min.0);
+    field(rt, e.max.0);
+    field(rt, e.life.0);
+    field(rt, e.life_left.0);
+    field(rt, e.owed.0);
+    field(rt, e.given.0);
+    number(rt, e.left.0);
+    let _ = println!(rt;);
 }
 
-pub fn open(units: u32, header: u32) -> Opening
+pub fn open(rt: &impl Print, units: u32, header: u32) -> Opening
     ensures { let s = setting units header in
         (open_number result.answer ≡ open_answer s) × (result.table ≡ cond (eqb (open_answer s) 0) (opened s) no_table) }
 {
     let s = Setting { units, header };
     let o = call_open::open(s);
     let answer = o.answer;
-    plain_row(b"open", call_answers::open_number(answer));
+    plain_row(rt, "open", call_answers::open_number(answer));
     o
 }
 
 // An opening that succeeds.
-pub fn table_of(units: u32, header: u32) -> Table
+pub fn table_of(rt: &impl Print, units: u32, header: u32) -> Table
     requires { Succeeds (setting units header) }
     ensures is { result ≡ opened (setting units header) }
     ensures formed { WellFormed result }
 {
-    let o = open(units, header);
+    let o = open(rt, units, header);
     o.table
 }
 
-pub fn offer(t: Table, stream: u32, kind: u32, period: u32, min: u32, max: u32, life: u32) -> Table
+pub fn offer(
+    rt: &impl Print,
+    t: Table,
+    stream: u32,
+    kind: u32,
+    period: u32,
+    min: u32,
+    max: u32,
+    life: u32,
+) -> Table
     requires { WellFormed t }
     ensures is { result ≡ offered t (request stream kind period min max life) }
     ensures formed { WellFormed result }
@@ -129,11 +136,11 @@ pub fn offer(t: Table, stream: u32, kind: u32, period: u32, min: u32, max: u32, 
     let name = Name { stream };
     let o = call_offer::offer(t, name, kind, period, min, max, life);
     let answer = o.answer;
-    name_row(b"offer", name, call_answers::offer_number(answer));
+    name_row(rt, "offer", name, call_answers::offer_number(answer));
     o.table
 }
 
-pub fn withdraw(t: Table, stream: u32) -> Table
+pub fn withdraw(rt: &impl Print, t: Table, stream: u32) -> Table
     requires { WellFormed t }
     ensures is { result ≡ withdrawn t (named stream) }
     ensures formed { WellFormed result }
@@ -141,24 +148,24 @@ pub fn withdraw(t: Table, stream: u32) -> Table
     let name = Name { stream };
     let w = call_held::withdraw(t, name);
     let answer = w.answer;
-    name_row(b"withdraw", name, call_answers::held_number(answer));
+    name_row(rt, "withdraw", name, call_answers::held_number(answer));
     w.table
 }
 
-pub fn enquire(t: Table, stream: u32) -> Enquiry
+pub fn enquire(rt: &impl Print, t: Table, stream: u32) -> Enquiry
     requires { WellFormed t }
     ensures { let n = named stream in (held_number result.answer ≡ held_answer t n) × (result.entry ≡ enquired t n) }
 {
     let name = Name { stream };
     let q = call_held::enquire(t, name);
     let answer = q.answer;
-    name_row(b"enquire", name, call_answers::held_number(answer));
-    entry_row(q.entry);
+    name_row(rt, "enquire", name, call_answers::held_number(answer));
+    entry_row(rt, q.entry);
     q
 }
 
 // The answer alone.
-pub fn tick(t: Table, plan: &mut [u32]) -> Beaconing
+pub fn tick(rt: &impl Print, t: Table, plan: &mut [u32]) -> Beaconing
     requires { WellFormed t }
     ensures is { let b = beacon t plan.old in
         (beacon_number result.answer ≡ b.answer) × ((result.count ≡ b.count) × ((result.table ≡ b.table) × (plan.new ≡ b.words))) }
@@ -166,18 +173,18 @@ pub fn tick(t: Table, plan: &mut [u32]) -> Beaconing
 {
     let b = call_beacon::beacon(t, plan);
     let answer = b.answer;
-    plain_row(b"beacon", call_answers::beacon_number(answer));
+    plain_row(rt, "beacon", call_answers::beacon_number(answer));
     b
 }
 
 // The answer, and every record of the plan.
-pub fn beacon(t: Table, plan: &mut [u32]) -> Table
+pub fn beacon(rt: &impl Print, t: Table, plan: &mut [u32]) -> Table
     requires { WellFormed t }
     ensures is { let b = beacon t plan.old in (result ≡ b.table) × (plan.new ≡ b.words) }
     ensures formed { WellFormed result }
 {
-    let b = tick(t, plan);
-    slot_rows(plan, b.count);
+    let b = tick(rt, t, plan);
+    slot_rows(rt, plan, b.count);
     b.table
 }
 
@@ -189,13 +196,13 @@ pub struct Part {
 }
 
 // The answer, and every record of the part that the window hands back.
-pub fn window(plan: &[u32], count: usize, from: Slots, until: Slots) -> Part
+pub fn window(rt: &impl Print, plan: &[u32], count: usize, from: Slots, until: Slots) -> Part
     ensures { let words = plan.now in let a = from.0 in let b = until.0 in
         (result.answer ≡ window_answer words count a b) × (result.records ≡ length (window_part words count a b) / record_words) }
 {
     let mut answer: u32 = 0;
     let part = plan_window::window(plan, count, from, until, &mut answer);
-    plain_row(b"window", answer);
-    let records = slot_rows(part, part.len() / spec_model::RECORD_WORDS);
+    plain_row(rt, "window", answer);
+    let records = slot_rows(rt, part, part.len() / spec_model::RECORD_WORDS);
     Part { answer, records }
 }

@@ -355,7 +355,7 @@ fn two_of_our_own(plan: &mut [u32])
     plan_of_two([2, 3, 2, 700, 0, 2], [4, 2, 2, 800, 800, 2], plan, &kinds);
 }
 
-fn main() {
+fn main(rt: HostRuntime) {
     let mut row = [0u8; 64];
     expect_header(&mut row);
     let mut plan = [0u32; spec_model::PLAN_WORDS];
@@ -370,8 +370,5 @@ fn main() {
     case_10(&mut lent);
     case_10_empty(&mut plan);
     two_of_our_own(&mut plan);
-    io::write_all(
-        1,
-        b"header, cases 1 to 10 and two of our own: as expected\n",
-    );
+    let _ = println!(rt; "header, cases 1 to 10 and two of our own: as expected");
 }
