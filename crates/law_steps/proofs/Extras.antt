@@ -30,7 +30,7 @@ use Rattle.law_steps.proofs.Grants.{slots_map}
 use Rattle.law_steps.proofs.Header.{held_whole, no_header, test_less}
 use Rattle.law_steps.specs.StepB.{step_b_of}
 use Rattle.law_steps.proofs.StepB.{step_b_within, step_b_total, remains_rest}
-use Rattle.law_steps.specs.Extras.{step_c_of, headroom_of}
+use Rattle.law_steps.specs.Extras.{Paid, step_c_of, headroom_of}
 
 -- ---- one extra
 extra_none : (L W d : ℕ) → L ≡ 0 → extra L W d ≡ 0
@@ -121,7 +121,7 @@ module _ (takes_part : Entry → Bool) (F : Frame) (es : List Entry) (w : Once e
 
   -- An extra is given only when everything owed is met: where something remains, step B gave the whole of what was owed, and
   -- nobody more than that, so each has what it was owed.
-  pub among_last : All (λ e. is_piece e ≡ true → (c_of e ≡ 0) ⊎ (step_b_of F es e ≡ e.owed.0)) es
+  pub among_last : All (λ e. is_piece e ≡ true → (c_of e ≡ 0) ⊎ Paid (step_b_of F es e) e) es
   among_last =
       elim (ℕ_discrete (remains F es) 0) [
         | yes z ↦ all_map (λ e h q. inl (h ∙ extra_none (remains F es) W (d_of e) z)) among_of
@@ -140,7 +140,7 @@ module _ (takes_part : Entry → Bool) (F : Frame) (es : List Entry) (w : Once e
       cut e true h = h refl
       cut e false h = zero-le
 
-      paid : (e : Entry) → is_piece e ≡ true → step_b_of F es e ≤ e.owed.0 → owed e ≤ got e → step_b_of F es e ≡ e.owed.0
+      paid : (e : Entry) → is_piece e ≡ true → step_b_of F es e ≤ e.owed.0 → owed e ≤ got e → Paid (step_b_of F es e) e
       paid e q h t = omega (arith, ap (λ b. cond b (step_b_of F es e) 0) q, ap (λ b. cond b e.owed.0 0) q)
 
 -- All jobs together: what every interval takes, what step B gives, and extras cs that take no more than remains, m times each.

@@ -1,6 +1,6 @@
 -- Step C: the extras stay within what remains and within each stream's headroom; none is given while somebody is owed; and with them
 -- all jobs of an interval fit it, where kind 1's minimums do. Assumes nothing.
-use Rattle.std.specs.Prelude.{ℕ}
+use Rattle.std.specs.Prelude.{◌≡◌, ℕ}
 use mathlib.Core.List.{List}
 use Rattle.spec_model.specs.declared.Entry.{Entry}
 use Rattle.spec_model.specs.declared.Frame.{Frame}
@@ -15,3 +15,7 @@ step_c_of F es e = slots_for e.name (step_c F es)
 -- its d
 abbrev pub headroom_of : Frame → List Entry → Entry → ℕ
 headroom_of F es e = headroom e (step_b_of F es e)
+
+-- b is the whole of what an entry is owed
+abbrev pub Paid : ℕ → Entry → Type 0
+Paid b e = b ≡ e.owed.0
