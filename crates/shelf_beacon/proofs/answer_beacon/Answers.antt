@@ -17,6 +17,7 @@ returns-then-not-ready c =
 pub plan_interval-p-requires : goal.plan_interval-p-requires
 plan_interval-p-requires c = c.requires.ready c.if-not-ready.false
 
+-- m is what the plan's call has given
 pub slot_rows-next-requires : goal.slot_rows-next-requires
 slot_rows-next-requires c =
     let m = made (c.requires.ready c.if-not-ready.false) c.requires.plan_words_in_bounds c.plan_interval-p.ensures in

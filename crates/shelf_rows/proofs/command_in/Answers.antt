@@ -1,8 +1,7 @@
-use mathlib.Core.Path.{◌≡◌, refl, sym, ◌∙◌}
+use mathlib.Core.Path.{◌≡◌, refl}
 use mathlib.Core.Bool.{true, false}
 use lib.Dec.{leb}
 use Rattle.spec_text.specs.Rows.{row_most}
-use native.Mathlib.Omega.{arith}
 use borrow.Author.Tests.{le-leb, lt-leb}
 use Rattle.shelf_state.specs.Cutting.{command_in}
 use Rattle.shelf_rows.proofs.command_in.Goals as goal

@@ -62,7 +62,8 @@ loop-taken-preserved-else-place-lt-PLACES c =
     let e = c.answer_offer-p.ensures in
     let l = c.loop-taken in
     let r = c.answer_offer-p.result in
-    let none = put_none l.ready l.table (Offer c.in-Offer.q) r.place r.entry l.invariant.formed refl c.if-place-lt-PLACES.false e.0 in
+    let none =
+    put_none l.ready l.table (Offer c.in-Offer.q) r.place r.entry l.invariant.formed refl c.if-place-lt-PLACES.false e.0 in
     answered l.invariant c.cut_row-c.ensures c.loop-taken-test.true (omega arith) c.if-c.true c.in-Offer.ensures
     c.at_start-reader.ensures (none, (e.1.0, (e.1.1, refl)))
 
@@ -85,7 +86,8 @@ loop-taken-preserved-else-place-lt-PLACES-2 c =
     let e = c.answer_withdraw-p.ensures in
     let l = c.loop-taken in
     let r = c.answer_withdraw-p.result in
-    let none = put_none l.ready l.table (Withdraw c.in-Withdraw.name) r.place r.entry l.invariant.formed refl c.if-place-lt-PLACES-2.false e.0 in
+    let none =
+    put_none l.ready l.table (Withdraw c.in-Withdraw.name) r.place r.entry l.invariant.formed refl c.if-place-lt-PLACES-2.false e.0 in
     answered l.invariant c.cut_row-c.ensures c.loop-taken-test.true (omega arith) c.if-c.true c.in-Withdraw.ensures
     c.at_start-reader.ensures (none, (e.1.0, (e.1.1, refl)))
 
