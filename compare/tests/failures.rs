@@ -123,7 +123,8 @@ fn left_after(bytes: usize, action: Action) -> Running {
 fn a_reader_that_goes_away() {
     for bytes in [0, 1, HEADER.len(), 100_000] {
         assert_ends(left_after(bytes, Action::Ignore), WRITING_FAILED);
-        assert_ended_by(left_after(bytes, Action::Default), SIGPIPE);
+        // The kit's runtime ignores the signal from the start, whatever the host chose.
+        assert_ends(left_after(bytes, Action::Default), WRITING_FAILED);
     }
 }
 
