@@ -20,8 +20,9 @@ use call_open::Opening;
 use spec_model::{Entry, Name, Setting, Slots, Table};
 
 // What becomes of text that is printed makes no difference to the calls.
-pub fn line(rt: &impl Print, text: &str) {
-    let _ = println!(rt; "{text}");
+pub fn line(rt: &impl Print, text: &[u8]) {
+    let _ = rt.write_all(text);
+    let _ = println!(rt;);
 }
 
 fn number(rt: &impl Print, n: u32) {
@@ -44,13 +45,15 @@ fn end_row(rt: &impl Print, answer: u32) {
     let _ = println!(rt;);
 }
 
-pub fn plain_row(rt: &impl Print, verb: &str, answer: u32) {
-    let _ = print!(rt; "{verb},,");
+pub fn plain_row(rt: &impl Print, verb: &[u8], answer: u32) {
+    let _ = rt.write_all(verb);
+    let _ = print!(rt; ",,");
     end_row(rt, answer);
 }
 
-pub fn name_row(rt: &impl Print, verb: &str, name: Name, answer: u32) {
-    let _ = print!(rt; "{verb},");
+pub fn name_row(rt: &impl Print, verb: &[u8], name: Name, answer: u32) {
+    let _ = rt.write_all(verb);
+    let _ = print!(rt; ",");
     name_field(rt, name);
     end_row(rt, answer);
 }
@@ -105,7 +108,7 @@ pub fn open(rt: &impl Print, units: u32, header: u32) -> Opening
     let s = Setting { units, header };
     let o = call_open::open(s);
     let answer = o.answer;
-    plain_row(rt, "open", call_answers::open_number(answer));
+    plain_row(rt, b"open", call_answers::open_number(answer));
     o
 }
 
@@ -136,7 +139,7 @@ pub fn offer(
     let name = Name { stream };
     let o = call_offer::offer(t, name, kind, period, min, max, life);
     let answer = o.answer;
-    name_row(rt, "offer", name, call_answers::offer_number(answer));
+    name_row(rt, b"offer", name, call_answers::offer_number(answer));
     o.table
 }
 
@@ -148,7 +151,7 @@ pub fn withdraw(rt: &impl Print, t: Table, stream: u32) -> Table
     let name = Name { stream };
     let w = call_held::withdraw(t, name);
     let answer = w.answer;
-    name_row(rt, "withdraw", name, call_answers::held_number(answer));
+    name_row(rt, b"withdraw", name, call_answers::held_number(answer));
     w.table
 }
 
@@ -159,7 +162,7 @@ pub fn enquire(rt: &impl Print, t: Table, stream: u32) -> Enquiry
     let name = Name { stream };
     let q = call_held::enquire(t, name);
     let answer = q.answer;
-    name_row(rt, "enquire", name, call_answers::held_number(answer));
+    name_row(rt, b"enquire", name, call_answers::held_number(answer));
     entry_row(rt, q.entry);
     q
 }
@@ -173,7 +176,7 @@ pub fn tick(rt: &impl Print, t: Table, plan: &mut [u32]) -> Beaconing
 {
     let b = call_beacon::beacon(t, plan);
     let answer = b.answer;
-    plain_row(rt, "beacon", call_answers::beacon_number(answer));
+    plain_row(rt, b"beacon", call_answers::beacon_number(answer));
     b
 }
 
@@ -202,7 +205,7 @@ pub fn window(rt: &impl Print, plan: &[u32], count: usize, from: Slots, until: S
 {
     let mut answer: u32 = 0;
     let part = plan_window::window(plan, count, from, until, &mut answer);
-    plain_row(rt, "window", answer);
+    plain_row(rt, b"window", answer);
     let records = slot_rows(rt, part, part.len() / spec_model::RECORD_WORDS);
     Part { answer, records }
 }

@@ -34,18 +34,18 @@ fn offers_of_case_1(rt: &impl Print) -> Table
 }
 
 fn cases_1_to_3(rt: &impl Print, plan: &mut [u32]) {
-    demo_calls::line(rt, "case 1");
+    demo_calls::line(rt, b"case 1");
     let t = offers_of_case_1(rt);
     let t = demo_calls::beacon(rt, t, plan);
-    demo_calls::line(rt, "case 2");
+    demo_calls::line(rt, b"case 2");
     let t = demo_calls::beacon(rt, t, plan);
-    demo_calls::line(rt, "case 3");
+    demo_calls::line(rt, b"case 3");
     demo_calls::beacon(rt, t, plan);
 }
 
 // The transfer is of stream 11.
 fn case_4(rt: &impl Print) {
-    demo_calls::line(rt, "case 4");
+    demo_calls::line(rt, b"case 4");
     let t = offers_of_case_1(rt);
     demo_calls::offer(rt, t, 11, 3, 2, 748, 0, 2);
     let t = offers_of_case_1(rt);
@@ -53,7 +53,7 @@ fn case_4(rt: &impl Print) {
 }
 
 fn case_5(rt: &impl Print, plan: &mut [u32]) {
-    demo_calls::line(rt, "case 5");
+    demo_calls::line(rt, b"case 5");
     let t = one_unit(rt);
     let t = demo_calls::offer(rt, t, 1, 2, 2, 1024, 1024, 2);
     let t = demo_calls::offer(rt, t, 2, 2, 2, 1024, 1024, 2);
@@ -63,16 +63,16 @@ fn case_5(rt: &impl Print, plan: &mut [u32]) {
 }
 
 fn cases_6_to_8(rt: &impl Print) {
-    demo_calls::line(rt, "case 6");
+    demo_calls::line(rt, b"case 6");
     let t = one_unit(rt);
     let t = demo_calls::offer(rt, t, 1, 1, 2, 512, 512, 1);
     demo_calls::offer(rt, t, 2, 1, 2, 1, 1, 1);
-    demo_calls::line(rt, "case 7");
+    demo_calls::line(rt, b"case 7");
     let t = one_unit(rt);
     demo_calls::offer(rt, t, 1, 1, 3, 1, 1, 1);
     let t = three_units(rt);
     demo_calls::offer(rt, t, 1, 1, 3, 1, 1, 1);
-    demo_calls::line(rt, "case 8");
+    demo_calls::line(rt, b"case 8");
     let t = one_unit(rt);
     let t = demo_calls::offer(rt, t, 1, 2, 2, 1, 1, 3);
     demo_calls::offer(rt, t, 1, 2, 2, 1, 1, 4);
@@ -81,7 +81,7 @@ fn cases_6_to_8(rt: &impl Print) {
 // Case 1's plan through the window. Then the refusals: one record more than the memory has, with from after until as well; the largest
 // 32-bit count; two records that start together.
 fn case_9(rt: &impl Print) {
-    demo_calls::line(rt, "case 9");
+    demo_calls::line(rt, b"case 9");
     let mut plan = [0u32; spec_model::PLAN_WORDS];
     let t = offers_of_case_1(rt);
     let b = demo_calls::tick(rt, t, &mut plan);
@@ -133,7 +133,7 @@ fn case_10_lent(rt: &impl Print, lent: usize, t: Table, plan: &mut [u32]) -> Tab
 }
 
 fn case_10(rt: &impl Print) {
-    demo_calls::line(rt, "case 10");
+    demo_calls::line(rt, b"case 10");
     let mut plan = [77777u32; spec_model::PLAN_WORDS];
     let t = offers_of_case_1(rt);
     demo_calls::enquire(rt, t, 7);
@@ -148,12 +148,12 @@ fn case_10(rt: &impl Print) {
 
 // Not the document's: the lower stream number goes first within kind 1, and kind 2 before 3 whatever their numbers are.
 fn two_of_our_own(rt: &impl Print, plan: &mut [u32]) {
-    demo_calls::line(rt, "our own: ties of kind 1");
+    demo_calls::line(rt, b"our own: ties of kind 1");
     let t = one_unit(rt);
     let t = demo_calls::offer(rt, t, 8, 1, 2, 200, 200, 1);
     let t = demo_calls::offer(rt, t, 6, 1, 2, 100, 100, 1);
     demo_calls::beacon(rt, t, plan);
-    demo_calls::line(rt, "our own: kind 2 before 3");
+    demo_calls::line(rt, b"our own: kind 2 before 3");
     let t = one_unit(rt);
     let t = demo_calls::offer(rt, t, 2, 3, 2, 700, 0, 2);
     let t = demo_calls::offer(rt, t, 4, 2, 2, 800, 800, 2);

@@ -79,7 +79,7 @@ fn first_lesson(rt: &impl Print, t: Table, plan: &mut [u32]) -> Table
     requires { WellFormed t }
     ensures { WellFormed result }
 {
-    demo_calls::line(rt, "lesson 1");
+    demo_calls::line(rt, b"lesson 1");
     let all = request(1, 1, 4, 200, 400, 4);
     let t = readers(rt, t, all, 31);
     let t = demo_calls::offer(rt, t, 101, 3, 4, 250000, 0, 4);
@@ -95,7 +95,7 @@ fn second_lesson(rt: &impl Print, t: Table, plan: &mut [u32]) -> Table
     requires { WellFormed t }
     ensures { WellFormed result }
 {
-    demo_calls::line(rt, "lesson 2");
+    demo_calls::line(rt, b"lesson 2");
     let aloud = request(1, 1, 2, 5000, 9000, 4);
     let t = readers(rt, t, aloud, 5);
     let pages = request(5, 2, 2, 20000, 60000, 4);
@@ -112,7 +112,7 @@ fn third_lesson(rt: &impl Print, t: Table, plan: &mut [u32]) -> Table
     requires { WellFormed t }
     ensures { WellFormed result }
 {
-    demo_calls::line(rt, "lesson 3");
+    demo_calls::line(rt, b"lesson 3");
     let t = demo_calls::offer(rt, t, 0, 1, 2, 1, 1, 3);
     let t = demo_calls::offer(rt, t, 65536, 1, 2, 1, 1, 3);
     let t = demo_calls::offer(rt, t, 12, 1, 5, 1000, 2000, 3);
@@ -141,7 +141,7 @@ fn fourth_lesson(rt: &impl Print, t: Table, plan: &mut [u32]) -> Table
     requires { WellFormed t }
     ensures { WellFormed result }
 {
-    demo_calls::line(rt, "lesson 4");
+    demo_calls::line(rt, b"lesson 4");
     let aloud = request(21, 1, 2, 10000, 20000, 3);
     let t = readers(rt, t, aloud, 24);
     let t = demo_calls::offer(rt, t, 104, 3, 1, 42401, 0, 1);
@@ -158,7 +158,7 @@ fn fifth_lesson(rt: &impl Print, t: Table, plan: &mut [u32]) -> Table
     requires { WellFormed t }
     ensures { WellFormed result }
 {
-    demo_calls::line(rt, "lesson 5");
+    demo_calls::line(rt, b"lesson 5");
     let t = demo_calls::offer(rt, t, 24, 2, 2, 102400, 102400, 4);
     let t = demo_calls::offer(rt, t, 25, 2, 2, 102400, 102400, 4);
     let t = intervals(rt, t, Intervals(1), plan);
@@ -174,7 +174,7 @@ fn sixth_lesson(rt: &impl Print, t: Table, plan: &mut [u32]) -> Table
     requires { WellFormed t }
     ensures { WellFormed result }
 {
-    demo_calls::line(rt, "lesson 6");
+    demo_calls::line(rt, b"lesson 6");
     let all = request(1, 2, 1, 2000, 4000, 8);
     let t = readers(rt, t, all, 31);
     let t = intervals(rt, t, Intervals(3), plan);
