@@ -87,5 +87,6 @@ bench: archive
 # Instructions that four beacons on the same 32 requests cost, first at 15 time units, then at 1,000 (valgrind's callgrind).
 cost:
 	$(call prove,run,demo_cost)
-	@out=$$(mktemp -d) && valgrind -q --tool=callgrind --callgrind-out-file=$$out/cg --zero-before='demo_cost::four_beacons' \
-	    --dump-after='demo_cost::four_beacons' target/bin/demo_cost > /dev/null && grep -h '^summary' $$out/cg.1 $$out/cg.2 && rm -r $$out
+	@name=$$(nm target/bin/demo_cost | grep -o 'demo_cost::four_beacons.*' | head -n 1) && out=$$(mktemp -d) \
+	    && valgrind -q --tool=callgrind --callgrind-out-file=$$out/cg --zero-before="$$name" --dump-after="$$name" target/bin/demo_cost > /dev/null \
+	    && grep -h '^summary' $$out/cg.1 $$out/cg.2 && rm -r $$out

@@ -71,7 +71,7 @@ pub fn after_grant(e: Entry, g: Granted) -> Entry
     settled(passed(e, g))
 }
 
-// The table by what each place is given, whoever planned it: for the table's own shares it is step F's (Next.moved-shares). The loop stops after
+// The table by what each place is given, whoever planned it: for the table's own shares it is step F's (Next.moved_shares). The loop stops after
 // the last place that is held: a free place stays free. It reads each entry where it writes the next one, so that one copy of the table is
 // made, not two.
 pub fn advance(t: Table, used: usize, s: Shares) -> Table

@@ -78,7 +78,7 @@ fn piece_at(ranks: &[u64], owed: &[u32], used: usize, capacity: Slots, i: usize)
     Slots(base_numbers::smaller(own, rest.0))
 }
 
-// For a tidy table's queue these are the slots of step B, place by place: Queues.pieces-right.
+// For a tidy table's queue these are the slots of step B, place by place: Queues.pieces_right.
 fn pieces(q: Queue, capacity: Slots) -> [u32; 32]
     requires { (q.used ≤ places) × Spare 0 q.used q.owed }
     ensures { result ≡ pieces_of capacity.0 q.ranks q.owed }
@@ -202,7 +202,7 @@ fn piece_limits(used: usize, jobs: &[u32; 32], limits: &[u32; 32]) -> [u32; 32]
     kept
 }
 
-// For a tidy table's queue these are its slots of steps B and C, where kind 1 takes part or not: Shares.shares-right. Step B gives all that is
+// For a tidy table's queue these are its slots of steps B and C, where kind 1 takes part or not: Shares.shares_right. Step B gives all that is
 // owed, or the whole capacity: what remains is the capacity less all that is owed.
 pub fn shares_of(f: Frame, q: Queue, fractions: bool) -> Shares
     requires { Bounded q }

@@ -1,4 +1,4 @@
--- What the theorem of the worked cases, `cases-right`, says of each of its lines, so that a program can cite the line that it runs; then
+-- What the theorem of the worked cases, `cases_right`, says of each of its lines, so that a program can cite the line that it runs; then
 -- openings, beacons and windows as those lines have them. Nothing is computed again but the plan of a table that holds nothing, which is
 -- in no list. Assumes nothing.
 use Rattle.std.specs.Prelude.{ℕ, zero, suc, ◌+◌, ◌*◌, ◌<◌, ◌≤◌, ◌≡◌, refl, Bool, true, false, cond, ◌&&◌, List, [], ◌∷◌, ◌++◌, eqb, ltb, length, get_or, take, drop}

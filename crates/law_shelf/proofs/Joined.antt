@@ -1,5 +1,5 @@
 -- What `shelf` prints is what histories show, proved. From any table, the rows up to the next opening that succeeds show the history of
--- their calls and leave its table (`table-told`); where there is no table, each call answers 51 (`first-told`). Both go row by row, and an
+-- their calls and leave its table (`table_told`); where there is no table, each call answers 51 (`first_told`). Both go row by row, and an
 -- opening that succeeds goes on from its own table. Demand 3 is then that of each history. Assumes nothing.
 use Rattle.std.specs.Prelude.{◌≡◌, Bool, true, false, cond, List, [], ◌∷◌, ◌++◌, map, ℕ, eqb, length, take}
 use Rattle.std.proofs.Math.Path.{refl, ap}

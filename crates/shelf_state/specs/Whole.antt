@@ -1,5 +1,5 @@
 -- The whole output, however the input is cut into chunks: the header, and the rows for each row of the input. The program serves one
--- chunk after the other, each in one part or more (`rows_append`), and then the last row (`whole-output`). Assumes nothing.
+-- chunk after the other, each in one part or more (`rows_append`), and then the last row (`whole_output`). Assumes nothing.
 use Rattle.std.specs.Prelude.{◌≡◌, refl, true, false, cond, List, [], ◌∷◌, ◌++◌, map, ℕ, leb, eqb, length}
 use Rattle.std.proofs.Common.{sym, ap, ap₂, ◌∙◌, ⊎_elim, append-nil, append_assoc, leb-true, leb-false}
 use Rattle.std.proofs.lemmas.List.{map-append}
