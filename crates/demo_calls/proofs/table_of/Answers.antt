@@ -15,5 +15,6 @@ succeeded s h = rw (eq-eqb (open_answer s) 0 h)
 pub returns : goal.returns
 returns g c =
     let s = setting c.args.units c.args.header in
-    let e = c.open-o.ensures.1 ∙ succeeded s c.requires in
+    let given : c.open-o.result.table ≡ cond (eqb (open_answer s) 0) (opened s) no_table = c.open-o.ensures.1 in
+    let e = given ∙ succeeded s c.requires in
     record { is = e; formed = subst WellFormed (sym e) (opened_formed s c.requires) }

@@ -21,7 +21,7 @@ returns-then-text-at c =
     let f = c.args.form in
     let i = c.loop-i.i in
     let whole : length f ≡ field_count = c.well_formed.1.0.1.0.1 in
-    fields_bad f _ (sym c.loop-i.invariant.3 ∙ rw (after_end_lem _ _ c.if-text-at.true) (fit_none f i (omega arith)))
+    fields_bad f _ (sym c.loop-i.invariant.3 ∙ rw (after_end_lem c.args.text.now c.loop-i.at c.if-text-at.true) (fit_none f i (omega arith)))
 
 pub overflow_add-end : goal.overflow_add-end
 overflow_add-end c = omega (arith, part_most _ _ _ c.if-text-at.false c.first_comma-size.ensures)

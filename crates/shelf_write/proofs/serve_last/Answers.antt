@@ -11,4 +11,4 @@ put-requires g c =
 
 pub returns-clause-took : goal.returns-clause-took
 returns-clause-took g c =
-    took_rows c.args.out.now c.put.ensures.took (omega (arith, c.finish-at.ensures.0)) c.finish-at.ensures.1.0
+    took_rows c.args.out.now {n = c.finish-at.result} c.put.ensures.took (omega (arith, c.finish-at.ensures.0)) c.finish-at.ensures.1.0

@@ -11,4 +11,4 @@ returns-clause-some g c =
 pub returns-clause-took : goal.returns-clause-took
 returns-clause-took g c =
     let e = c.serve_rows-part.ensures.is.1 in
-    took_rows c.args.out.now c.put-handed.ensures.took (omega (arith, e.0)) e.1.0
+    took_rows c.args.out.now {n = c.serve_rows-part.result.at} c.put-handed.ensures.took (omega (arith, e.0)) e.1.0
