@@ -5,7 +5,7 @@
 
 Needs: the crates below are checked, and the crate's source passes the front end.
 """
-import glob, json, os, re, subprocess, sys
+import glob, json, os, re, subprocess, sys, tempfile
 
 W = r"[A-Za-z_][A-Za-z0-9_'₀-₉-]*"
 
@@ -272,7 +272,7 @@ def main():
     where = os.path.realpath(sys.argv[1])
     crate = os.path.basename(where)
     root = os.path.dirname(where)
-    out = f"/tmp/names-{crate}-{os.getpid()}"
+    out = os.path.join(tempfile.mkdtemp(), "names")
     r = subprocess.run(["rt", "check", "--generated", out, "--old-names"], cwd=where, stdout=subprocess.PIPE, stderr=subprocess.STDOUT, text=True)
     if not os.path.exists(out + "/names.json"):
         print(r.stdout[-3000:])

@@ -101,12 +101,12 @@ held_sound {F} {e} h = ⊎_elim (λ f. rw (fraction_source e f.kind) (refl, refl
 -- ---- the load
 pub load_free : (t : ℕ) → load_at free_entry t ≡ 0
 unfolding load_at
-load_free t = due_zero (suc t) 0 (load_of free_entry) load_of_free
+load_free t = omega (arith, due_zero (suc t) 0 (load_of free_entry) load_of_free, load_of_free)
 
 -- of any kind but 1
 pub load_none : (e : Entry) (t : ℕ) → is_kind 1 e ≡ false → load_at e t ≡ 0
 unfolding load_at
-load_none e t k = due_zero (suc t) e.life_left.0 (load_of e) (load_of_none e k)
+load_none e t k = omega (arith, due_zero (suc t) e.life_left.0 (load_of e) (load_of_none e k), load_of_none e k)
 
 pub load_fraction : (e : Entry) (t : ℕ) → e.kind ≡ 1 → load_at e t ≡ due (suc t) e.life_left.0 (e.parts * asks e)
 unfolding load_at

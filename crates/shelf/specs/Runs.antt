@@ -1,5 +1,6 @@
--- What the program did when it stops. What a read gives and what becomes of a write no contract can say. So there is an input, as long as
--- the reads gave, and the shelf, the plan's memory and the count of the bytes handed to writes are those of that input. Assumes nothing.
+-- What the program did when it stops. What a read of the system gives and what becomes of a write no contract can say. So there is an input,
+-- as long as the reads gave, and the shelf, the plan's memory and the count of the bytes handed to writes are those of that input. Assumes
+-- nothing.
 use Rattle.std.specs.Prelude.{◌≡◌, refl, Bool, true, false, cond, List, [], ◌∷◌, ◌++◌, ℕ, zero, suc, ◌-◌, ◌^◌, min, Result, Ok, Err, length}
 use Rattle.std.specs.Io.{ReadsAtMost}
 use Rattle.std.proofs.Common.{ap, ◌∙◌, append-nil, arith}
