@@ -1,5 +1,5 @@
--- The figures of a table's places as looking ahead keeps them: an array for each figure. Definitions and laws hand them on as one record of
--- columns, and read a place's figures by `figures_at`. Assumes nothing.
+-- The figures of a table's places by columns, one for each figure: definitions and laws hand them on as one record, and read a place's figures
+-- by `figures_at`. Assumes nothing.
 use Rattle.std.specs.Prelude.{◌≡◌, refl, List, [], ◌∷◌, map, ℕ, zero, suc, ◌<◌, length, set, get_or, replicate}
 use Rattle.std.proofs.Common.{sym, ap, ap₂, ◌∙◌}
 use Rattle.std.proofs.lemmas.List.{length-map}
@@ -57,6 +57,22 @@ abbrev pub entered : ℕ → Figures → Columns → Columns
 entered i f c =
     columns (set c.ranks i f.rank) (set c.owed i f.owed.0) (set c.ends i f.end.0) (set c.lives i f.life.0)
     (set c.loads i f.load.0) (set c.begins i f.begin.0) (set c.periods i f.period.0)
+
+-- another amount owed at a place, and at each place
+abbrev pub with_owed : ℕ → Figures → Figures
+with_owed o f =
+    record {
+      rank = f.rank;
+      owed = record { 0 = o };
+      end = f.end;
+      life = f.life;
+      load = f.load;
+      begin = f.begin;
+      period = f.period;
+    }
+
+abbrev pub owing : List ℕ → Columns → Columns
+owing O c = columns c.ranks O c.ends c.lives c.loads c.begins c.periods
 
 -- ---- the figures of entries
 abbrev pub columns_of : List Entry → Columns

@@ -1,3 +1,4 @@
 pub mod Figures
 pub mod Columns
+pub mod Arrays
 pub mod Totals

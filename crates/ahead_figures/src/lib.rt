@@ -2,17 +2,15 @@
 // keeps its figures while it is neither served nor at its end.
 #![tactic(auto)]
 
-ghost use Rattle.std.specs.Prelude.{◌≡◌, ◌≤◌, ◌<◌, replicate};
-ghost use Rattle.spec_model.specs.Entries.{free_entry};
+ghost use Rattle.std.specs.Prelude.{◌≡◌, ◌≤◌, map, replicate};
 ghost use Rattle.spec_model.specs.Tables.{places};
 ghost use Rattle.spec_rules.specs.WellFormed.{Tidy};
 ghost use Rattle.spec_rules.specs.Share.{load_of};
 ghost use Rattle.law_model.specs.Frames.{most_slots};
 ghost use Rattle.table_queue.specs.Queues.{Used};
 ghost use Rattle.ahead_figures.specs.Figures.{life_end, figured, figures_of};
-ghost use Rattle.ahead_figures.specs.Columns.{columns, columns_of, entered};
 
-use spec_model::{Entry, Intervals, Slots, Table};
+use spec_model::{Entry, Intervals, Kind, Slots, Table};
 
 // In a free place nothing ends.
 pub const NEVER: Intervals = Intervals(4294967295);
@@ -31,11 +29,22 @@ pub struct Figures {
     pub period: Intervals,
 }
 
+// The figures of a free place.
+pub const FREE: Figures = Figures {
+    rank: 0,
+    owed: Slots(0),
+    end: NEVER,
+    life: Intervals(0),
+    load: Slots(0),
+    begin: Slots(0),
+    period: Intervals(0),
+};
+
 // Where there is no period the end is that of the life, if there is one.
 fn life_end(e: Entry) -> Intervals
     ensures { result.0 ≡ life_end e }
 {
-    if spec_model::is_nobody(e.name) {
+    if e.name.is_nobody() {
         return NEVER;
     }
     e.life_left
@@ -46,14 +55,12 @@ fn figured(e: Entry, owed: Slots, end: Intervals, begin: Slots, period: Interval
     requires { load_of e ≤ most_slots }
     ensures { result ≡ figured e owed end begin period }
 {
-    let rank = table_entry::rank(e.left, e.kind, e.name);
-    let life = e.life_left;
     let load = table_entry::load_of(e) as u32;
     Figures {
-        rank,
+        rank: table_entry::rank(e.left, e.kind, e.name),
         owed,
         end,
-        life,
+        life: e.life_left,
         load: Slots(load),
         begin,
         period,
@@ -64,65 +71,20 @@ pub fn figures_of(e: Entry) -> Figures
     requires { load_of e ≤ most_slots }
     ensures { result ≡ figures_of e }
 {
-    let kind = e.kind;
-    if kind == 2 {
-        return figured(e, e.owed, e.left, e.min, e.period);
+    match e.kind() {
+        Some(Kind::Whole) => figured(e, e.owed, e.left, e.min, e.period),
+        Some(Kind::Transfer) => figured(e, e.owed, e.left, Slots(0), Intervals(0)),
+        _ => figured(e, Slots(0), life_end(e), Slots(0), Intervals(0)),
     }
-    if kind == 3 {
-        return figured(e, e.owed, e.left, Slots(0), Intervals(0));
-    }
-    let end = life_end(e);
-    figured(e, Slots(0), end, Slots(0), Intervals(0))
 }
 
-// The figures of one place, each in its array.
-pub fn enter(
-    f: Figures,
-    place: usize,
-    ranks: &mut [u64; 32],
-    owed: &mut [u32; 32],
-    ends: &mut [u32; 32],
-    lives: &mut [u32; 32],
-    loads: &mut [u32; 32],
-    begins: &mut [u32; 32],
-    periods: &mut [u32; 32],
-)
-    requires { place < places }
-    ensures { columns ranks.new owed.new ends.new lives.new loads.new
-        begins.new periods.new
-        ≡ entered place f (columns ranks.old owed.old ends.old lives.old loads.old
-        begins.old periods.old) }
-{
-    ranks[place] = f.rank;
-    owed[place] = f.owed.0;
-    ends[place] = f.end.0;
-    lives[place] = f.life.0;
-    loads[place] = f.load.0;
-    begins[place] = f.begin.0;
-    periods[place] = f.period.0;
-}
-
-// The figures of the first places; those behind them are free, as all were before.
-pub fn read_table(
-    t: Table,
-    used: usize,
-    ranks: &mut [u64; 32],
-    owed: &mut [u32; 32],
-    ends: &mut [u32; 32],
-    lives: &mut [u32; 32],
-    loads: &mut [u32; 32],
-    begins: &mut [u32; 32],
-    periods: &mut [u32; 32],
-)
+// The figures of a table: those of its first places. Behind them all are free, as all were before.
+pub fn read_table(t: Table, used: usize, figures: &mut [Figures; 32])
     requires tidy { Tidy t × Used used t }
-    requires periods_value { columns ranks.old owed.old ends.old lives.old loads.old begins.old periods.old
-        ≡ columns_of (replicate places free_entry) }
-    ensures { columns ranks.new owed.new ends.new lives.new loads.new
-        begins.new periods.new ≡ columns_of t.entries }
+    requires free { figures.old ≡ replicate places FREE }
+    ensures { figures.new ≡ map figures_of t.entries }
 {
     for i in 0..used {
-        let e = t.entries[i];
-        let f = figures_of(e);
-        enter(f, i, ranks, owed, ends, lives, loads, begins, periods);
+        figures[i] = figures_of(t.entries[i]);
     }
 }

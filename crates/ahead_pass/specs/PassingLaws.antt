@@ -1,14 +1,17 @@
--- Laws of the loop that passes an end. Assumes nothing.
-use Rattle.std.specs.Prelude.{◌≡◌, refl, Bool, true, false, cond, ℕ, ◌+◌, ◌≤◌, ◌<◌, eqb, ltb, set, get_or}
-use Rattle.std.proofs.Common.{sym, ap, ◌∙◌, zero-le, arith, length-set, get_or-set_same, get_or-set_other, eq-eqb, ne_eqb, ltb-true, ltb-false, lt-ltb, le-ltb}
+-- Laws of passing an end: one place after the other, and of a whole table by the figures of its first places. Assumes nothing.
+use Rattle.std.specs.Prelude.{◌≡◌, refl, Bool, true, false, cond, List, map, All, ℕ, ◌+◌, ◌≤◌, ◌<◌, eqb, ltb, length, set, get_or}
+use Rattle.std.proofs.Common.{sym, ap, subst, ◌∙◌, zero-le, arith, length-set, get_or-set_same, get_or-set_other, eq-eqb, ne_eqb, ltb-true, ltb-false, lt-ltb, le-ltb}
 use Rattle.std.proofs.Math.Decide.{ℕ_discrete}
+use Rattle.std.proofs.lemmas.List.{length-map}
+use Rattle.base_lists.specs.Loops.{map_at}
 use Rattle.base_lists.specs.Tests.{same_test}
 use Rattle.base_lists.specs.Spare.{Spare, spare_at_lem}
 use Rattle.spec_model.specs.Tables.{places}
+use Rattle.ahead_figures.specs.Arrays.{free_figures, padded, columns_in, table_of, sized_in, figures_in, length_padded, padded_map, table_at}
 use Rattle.ahead_figures.specs.Columns.{Columns, columns, figures_at, Sized}
 use Rattle.ahead_figures.specs.Figures.{never}
 use Rattle.ahead_figures.specs.declared.Figures.{Figures}
-use Rattle.ahead_pass.specs.Passed.{gone, anew, after_end, passed_end, PassedEnds}
+use Rattle.ahead_pass.specs.Passed.{gone, anew, after_end, passed_end, InRoom, Roomy, PassedEnds}
 
 -- the figures of place i, but for its life and its period, which stay
 abbrev pub moved : ℕ → Figures → Columns → Columns
@@ -130,3 +133,25 @@ module _ (at : ℕ) (c₀ : Columns) where
       go j k false e =
           sym (ap (λ b. cond b (after_end at (before j)) (before j))
           (ne_eqb _ at (λ z. omega (arith, z, spare_at_lem never n j c₀.ends 0 q (omega (arith, ltb-false j i e)) (omega (arith, s.ends))))))
+
+-- ---- a table, by the figures of its first places
+passed_free : (at : ℕ) → at < never → passed_end at free_figures ≡ free_figures
+passed_free at h = ap (λ b. cond b (after_end at free_figures) free_figures) (ne_eqb never at (λ z. omega arith))
+
+pub passed_table : (at : ℕ) (fs : List Figures) → length fs ≤ places → at < never
+    → PassedEnds at (table_of fs) (table_of (map (passed_end at) fs))
+passed_table at fs h l =
+    record {
+      sized = sized_in _ (length_padded (map (passed_end at) fs) (omega (arith, length-map fs (passed_end at))));
+      each = λ i k.
+          let n : i < length (padded fs) = omega (arith, length_padded fs h) in
+          ap (λ gs. figures_at (columns_in gs) i) (padded_map (passed_end at) (passed_free at l) fs)
+          ∙ figures_in (map (passed_end at) (padded fs)) i (omega (arith, length-map (padded fs) (passed_end at)))
+          ∙ map_at (passed_end at) (padded fs) i free_figures free_figures n
+          ∙ ap (passed_end at) (sym (figures_in (padded fs) i n));
+    }
+
+pub roomy_table : {used at : ℕ} (fs : List Figures) → length fs ≤ places → Roomy (table_of fs) used at → All (λ f. InRoom f at) fs
+roomy_table {used} {at} fs h r k d l =
+    subst (λ f. InRoom f at) (table_at fs k d l)
+    (record { rank = r.rank k (omega arith); period = r.period k (omega arith); soon = r.soon })

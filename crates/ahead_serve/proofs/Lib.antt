@@ -1,2 +1,3 @@
 pub mod Searching
 pub mod Paying
+pub mod Turns

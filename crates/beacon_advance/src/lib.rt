@@ -6,62 +6,59 @@ ghost use Rattle.spec_rules.specs.Ahead.{passed, renewed, settled};
 ghost use Rattle.beacon_advance.specs.Moving.{WithinAmounts, after_grant, Movable, moved_by};
 
 use beacon_share::{Granted, Shares};
-use spec_model::{Entry, Table};
+use spec_model::{Entry, Intervals, Kind, Slots, Table};
 
 // Owed falls by its piece, given grows by its piece and its extra, life and intervals left fall by one; kind 1 has a life alone.
 // What was given stays within the amounts of the request, so it has 32 bits.
+#[tactic(auto, unfolding(spec_rules::specs::Ahead::passed))]
 fn passed(e: Entry, g: Granted) -> Entry
     requires { WithinAmounts g e }
     ensures { result ≡ passed g.piece.0 g.extra.0 e }
 {
-    let kind = e.kind;
-    let life_left = base_numbers::less(e.life_left.0, 1);
-    let mut next = e;
-    next.life_left.0 = life_left;
-    if kind == 1 {
-        next.owed.0 = 0;
-        next.given.0 = 0;
-        next.left.0 = 0;
-        return next;
+    let life_left = Intervals(e.life_left.0.saturating_sub(1));
+    match e.kind() {
+        Some(Kind::Fraction) => Entry {
+            life_left,
+            owed: Slots(0),
+            given: Slots(0),
+            left: Intervals(0),
+            ..e
+        },
+        _ => Entry {
+            life_left,
+            owed: Slots(e.owed.0.saturating_sub(g.piece.0)),
+            given: Slots(e.given.0 + g.piece.0 + g.extra.0),
+            left: Intervals(e.left.0.saturating_sub(1)),
+            ..e
+        },
     }
-    let owed = base_numbers::less(e.owed.0, g.piece.0);
-    let given = e.given.0 + g.piece.0 + g.extra.0;
-    let left = base_numbers::less(e.left.0, 1);
-    next.owed.0 = owed;
-    next.given.0 = given;
-    next.left.0 = left;
-    next
 }
 
 // The next period begins.
+#[tactic(auto, unfolding(spec_rules::specs::Ahead::renewed))]
 fn renewed(e: Entry) -> Entry
     ensures { result ≡ renewed e }
 {
-    let owed = e.min;
-    let left = e.period;
-    let mut next = e;
-    next.owed = owed;
-    next.given.0 = 0;
-    next.left = left;
-    next
+    Entry {
+        owed: e.min,
+        given: Slots(0),
+        left: e.period,
+        ..e
+    }
 }
 
 // An entry with life 0 leaves; a kind 2 entry with 0 intervals left begins its next period.
+#[tactic(auto, unfolding(spec_rules::specs::Ahead::settled))]
 fn settled(e: Entry) -> Entry
     ensures { result ≡ settled e }
 {
-    let life = e.life_left.0;
-    if life == 0 {
+    if e.life_left.0 == 0 {
         return spec_model::free_entry();
     }
-    let kind = e.kind;
-    let left = e.left.0;
-    if kind == 2 {
-        if left == 0 {
-            return renewed(e);
-        }
+    match e.kind() {
+        Some(Kind::Whole) if e.left.0 == 0 => renewed(e),
+        _ => e,
     }
-    e
 }
 
 pub fn after_grant(e: Entry, g: Granted) -> Entry
@@ -79,11 +76,8 @@ pub fn advance(t: Table, used: usize, s: Shares) -> Table
     ensures { result ≡ moved_by s t }
 {
     let mut next = t;
-    for i in 0..used {
-        let e = next.entries[i];
-        let g = s.grants[i];
-        let n = after_grant(e, g);
-        next.entries[i] = n;
+    for (i, grant) in s.grants[..used].iter().enumerate() {
+        next.entries[i] = after_grant(next.entries[i], *grant);
     }
     next
 }

@@ -19,10 +19,8 @@ fn extras_pass(t: Table, used: usize, s: Shares) -> bool
     ensures { result ≡ extras_pass t.frame (held_of t) }
 {
     let mut sums = [0u64; header_test::PARTS_ROOM];
-    for i in 0..used {
-        let e = t.entries[i];
-        let g = s.grants[i];
-        header_test::add_need(&mut sums, e, g.extra);
+    for (i, e) in t.entries[..used].iter().enumerate() {
+        header_test::add_need(&mut sums, *e, s.grants[i].extra);
     }
     header_test::passes(t.frame, &sums)
 }

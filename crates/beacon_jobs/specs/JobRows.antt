@@ -1,25 +1,23 @@
 -- The rows of a table's entries in the tie order have the table's jobs, and beside them jobs that need nothing: so their plan is the
 -- table's. Assumes nothing.
-use Rattle.std.specs.Prelude.{◌≡◌, refl, List, [], ◌∷◌, ◌++◌, map, drop, replicate}
+use Rattle.std.specs.Prelude.{◌≡◌, refl, List, [], ◌∷◌, map, replicate}
 use Rattle.std.proofs.Math.Path.{sym, ap, subst}
 use Rattle.std.proofs.Common.{◌∙◌, arith, length-append}
-use Prim.Native.Nat.{ℕ, zero, suc, ◌-◌, ◌≤◌}
+use Prim.Native.Nat.{ℕ, ◌-◌, ◌≤◌}
 use Rattle.std.proofs.Math.ListN.{length}
 use Rattle.std.proofs.Math.Seq.{take-append_seam}
 use Rattle.spec_lists.specs.Lists.{sum_of, concat_map}
 use Rattle.spec_lists.specs.All.{All, stop, and}
 use Rattle.base_lists.specs.All.{all_map, all_of_map, all_keep}
 use Rattle.base_lists.specs.Sums.{sum_keep_le}
-use Rattle.spec_model.specs.Entries.{free_entry, is_held}
-use Rattle.spec_model.specs.Names.{nobody}
+use Rattle.spec_model.specs.Entries.{is_held}
 use Rattle.spec_model.specs.Frames.{slots_in, header_in}
 use Rattle.spec_model.specs.Tables.{places, held_of}
 use Rattle.spec_model.specs.declared.Frame.{Frame}
-use Rattle.spec_model.specs.declared.Name.{Name}
 use Rattle.spec_model.specs.declared.Entry.{Entry}
 use Rattle.spec_model.specs.declared.Table.{Table}
 use Rattle.spec_rules.specs.Share.{Grant, job_count, step_b, step_c}
-use Rattle.spec_rules.specs.Slots.{Job, jobs_from, jobs_of, job_need, job_length, jobs, tie_order, slots_from, runs_from}
+use Rattle.spec_rules.specs.Slots.{Job, jobs_of, job_need, job_length, jobs, tie_order, slots_from, runs_from}
 use Rattle.spec_rules.specs.Calls.{plan_of}
 use Rattle.spec_rules.specs.WellFormed.{Tidy}
 use Rattle.law_steps.proofs.Places.{tidy_held}
@@ -32,42 +30,32 @@ use Rattle.law_steps.specs.Ranks.{rank}
 use Rattle.table_queue.specs.Queues.{Used, jobs_few}
 use Rattle.beacon_share.specs.Shares.{sharing_of, grant_of, grants_right}
 use Rattle.beacon_share.specs.declared.Sharing.{Sharing}
-use Rattle.beacon_order.specs.Filled.{filled, filled_behind, filled_all}
 use Rattle.beacon_order.specs.Listed.{listed, order_of}
 use Rattle.beacon_order.proofs.TiePlaces.{listed_ties, listed_places_lem, listed_length}
 use Rattle.beacon_order.specs.declared.Order.{Order}
-use Rattle.beacon_plan.specs.Rows.{row_from, row_jobs, row_plan, Rows, Spare}
-use Rattle.beacon_plan.specs.Needs.{needs_row, need_rows, Counted, needs_map}
+use Rattle.std.proofs.lemmas.List.{length-map}
+use Rattle.beacon_plan.specs.declared.JobRow.{JobRow}
+use Rattle.beacon_plan.specs.Rows.{row_from, row_jobs, row_plan, Rows}
+use Rattle.beacon_plan.specs.Needs.{needs_row, names_of, lengths_of, needs_of, Few}
 use Rattle.beacon_plan.specs.RowLaws.{row_skipped, plan_skipped}
 use Rattle.beacon_plan.specs.Skipped.{Skipped, over, skipped_append, skipped_names}
-use Rattle.beacon_jobs.specs.Needs.{need_by, row_by}
-use Rattle.beacon_jobs.specs.Limits.{free_none, length_free, length_held}
-use Rattle.beacon_jobs.specs.Listing.{Listed, entry_at, rows_in, rows_size, rows_spare}
-use Rattle.beacon_jobs.specs.Making.{Made, name_in, length_in, need_in}
+use Rattle.beacon_jobs.specs.Needs.{need_by, row_in}
+use Rattle.beacon_jobs.specs.Limits.{length_held}
+use Rattle.beacon_jobs.specs.Listing.{Listed, entry_at, found}
 
 module _ (F : Frame) (s : Sharing) (ps : List Entry) where
   abbrev rows_of : List Entry → List Job
-  rows_of os = row_jobs (map name_in os) (map (job_length F) os) (map (row_by s ps) os)
+  rows_of os = let rs = map (row_in F s ps) os in row_jobs (names_of rs) (lengths_of rs) (needs_of rs)
 
-  -- free places at the end
-  free_skipped : (n : ℕ) → need_by (grant_of s ps free_entry) free_entry ≡ 0 → Skipped (rows_of (replicate n free_entry)) []
-  unfolding row_jobs jobs_from
-  free_skipped zero z = over
-  free_skipped (suc n) z =
-      skipped_append
-      (subst (λ v. Skipped (row_from nobody (slots_in F) 0 (needs_row 1 v)) []) (sym z) (row_skipped 0 16 nobody (slots_in F) 0 0))
-      (free_skipped n z)
-
-  rows_skipped : (bs cs : List Grant) (n : ℕ) → need_by (grant_of s ps free_entry) free_entry ≡ 0
-      → {os : List Entry} → All (λ e. need_by (grant_of s ps e) e ≡ job_need bs cs e) os
-      → Skipped (rows_of (os ++ replicate n free_entry)) (concat_map (jobs_of F bs cs) os)
+  rows_skipped : (bs cs : List Grant) {os : List Entry} → All (λ e. need_by (grant_of s ps e) e ≡ job_need bs cs e) os
+      → Skipped (rows_of os) (concat_map (jobs_of F bs cs) os)
   unfolding row_jobs
-  rows_skipped bs cs n z stop = free_skipped n z
-  rows_skipped bs cs n z (and {x = e} q h) =
+  rows_skipped bs cs stop = over
+  rows_skipped bs cs (and {x = e} q h) =
       skipped_append
       (subst (λ v. Skipped (row_from e.name (job_length F e) 0 (needs_row (job_count e) v)) (jobs_of F bs cs e)) (sym q)
       (row_skipped (job_count e) (16 - job_count e) e.name (job_length F e) (job_need bs cs e) 0))
-      (rows_skipped bs cs n z h)
+      (rows_skipped bs cs h)
 
 -- ---- a table's rows
 module _ (t : Table) (w : Tidy t) where
@@ -78,10 +66,13 @@ module _ (t : Table) (w : Tidy t) where
   es = held_of t
 
   abbrev os : List Entry
-  os = filled (tie_order es)
+  os = tie_order es
 
   abbrev sh : Sharing
   sh = sharing_of t
+
+  abbrev rs : List JobRow
+  rs = map (row_in F sh t.entries) os
 
   -- all entries have a place
   length_sum : {A : Type 0} (xs : List A) → length xs ≡ sum_of (λ x. 1) xs
@@ -104,27 +95,29 @@ module _ (t : Table) (w : Tidy t) where
 
   table_skipped : Skipped (rows_of F sh t.entries os) (jobs F es)
   unfolding jobs
-  table_skipped =
-      subst (λ l. Skipped (rows_of F sh t.entries l) (jobs F es)) (sym (filled_behind (tie_order es) tie_few))
-      (rows_skipped F sh t.entries (step_b F es) (step_c F es) (places - length (tie_order es)) (free_none t w) own_needs)
+  table_skipped = rows_skipped F sh t.entries (step_b F es) (step_c F es) own_needs
 
-  rows_fit : Rows (slots_in F) (map name_in os) (map (job_length F) os) (map (row_by sh t.entries) os)
+  rows_fit : Rows (slots_in F) (names_of rs) (lengths_of rs) (needs_of rs)
   rows_fit =
       record {
         short = slots_most t w;
-        each = all_of_map (job_length F) (filled_all _ (length_free t w) (all_tie (tidy_held w) (length_held t w)));
+        each = all_of_map (λ r. r.length.0) (all_of_map (row_in F sh t.entries) (all_tie (tidy_held w) (length_held t w)));
         names = skipped_names table_skipped (jobs_keys (tidy_together w));
       }
 
-  rows_plan : row_plan (slots_in F) (header_in F) (map name_in os) (map (job_length F) os) (map (row_by sh t.entries) os) ≡ plan_of t
+  rows_plan : row_plan (slots_in F) (header_in F) (names_of rs) (lengths_of rs) (needs_of rs) ≡ plan_of t
   unfolding plan_of
   rows_plan =
       plan_skipped (slots_in F) (header_in F) _ _ _ table_skipped
       ∙ sym (plan_runs F es ∙ ap (λ n. runs_from (header_in F) (slots_from n (header_in F) (jobs F es))) (room_less F))
 
-  -- a row has room for the jobs
-  counts_few : All (λ e. job_count e ≤ 16) os
-  counts_few = filled_all _ (omega arith) (all_tie (tidy_held w) (all_keep is_held (λ e q l. l) (jobs_few t w)))
+  -- a row has room for the jobs, and the plan for the rows
+  rows_few : Few rs
+  rows_few =
+      record {
+        rows = simp length-map tie_few;
+        jobs = all_of_map (row_in F sh t.entries) (all_tie (tidy_held w) (all_keep is_held (λ e q l. l) (jobs_few t w)));
+      }
 
 -- ---- rows that a program has made
 module _ (t : Table) (w : Tidy t) {n : ℕ} (u : Used n t) {o : Order} (e : o ≡ order_of (map rank t.entries) n) where
@@ -144,37 +137,14 @@ module _ (t : Table) (w : Tidy t) {n : ℕ} (u : Used n t) {o : Order} (e : o �
         each = rw (take-append_seam ps (replicate (places - length ps) 0)) (listed_places_lem t w n u.0 u.1);
       })
 
-  rows_tied : rows_in t o ≡ filled (tie_order (held_of t))
-  rows_tied =
-      ap (rows_in t) e
-      ∙ ap (λ l. filled (map (entry_at t) l)) (take-append_seam ps (replicate (places - length ps) 0))
-      ∙ ap filled (listed_ties t w n u.0 u.1)
+  found_tied : found t o ≡ tie_order (held_of t)
+  found_tied =
+      ap (found t) e
+      ∙ ap (map (entry_at t)) (take-append_seam ps (replicate (places - length ps) 0))
+      ∙ listed_ties t w n u.0 u.1
 
-  module _ {ss : List Name} {Ts cs ns : List ℕ} (m : Made t o ss Ts cs ns) where
-    -- the needs that the plan makes are the rows of the entries
-    needs_made : need_rows cs ns ≡ map (row_by (sharing_of t) t.entries) (rows_in t o)
-    needs_made = rw (m.counts, m.needs) (needs_map job_count (need_in t) (rows_in t o))
-
-    pub plan_made : Rows (slots_in t.frame) ss Ts (need_rows cs ns) × (row_plan (slots_in t.frame) (header_in t.frame) ss Ts (need_rows cs ns) ≡ plan_of t)
-    plan_made = rw (m.names, m.lengths, needs_made, rows_tied) (rows_fit t w, rows_plan t w)
-
-    pub spare_made : (o.count ≤ places) × Spare (slots_in t.frame) o.count Ts (need_rows cs ns)
-    spare_made = (
-      order_listed.few,
-      rw (m.lengths, needs_made)
-          (record {
-            lengths = rows_spare t o order_listed (job_length t.frame);
-            needs = subst (λ r. All (λ ns. ns ≡ r) (drop o.count (map (row_by (sharing_of t) t.entries) (rows_in t o))))
-                (ap (needs_row 1) (free_none t w)) (rows_spare t o order_listed (row_by (sharing_of t) t.entries));
-          }),
-    )
-
-    pub sized_made : (length Ts ≡ places) × Counted cs ns
-    sized_made = (
-      ap length m.lengths ∙ rows_size t o order_listed (length_in t),
-      record {
-        counts_sized = ap length m.counts ∙ rows_size t o order_listed job_count;
-        each_sized = ap length m.needs ∙ rows_size t o order_listed (need_in t);
-        few = rw (m.counts, rows_tied) (all_of_map job_count (counts_few t w));
-      },
-    )
+  -- one for each place that is listed
+  pub rows_made : {rs : List JobRow} → rs ≡ map (row_in t.frame (sharing_of t) t.entries) (found t o)
+      → Rows (slots_in t.frame) (names_of rs) (lengths_of rs) (needs_of rs)
+      × (Few rs × (row_plan (slots_in t.frame) (header_in t.frame) (names_of rs) (lengths_of rs) (needs_of rs) ≡ plan_of t))
+  rows_made m = rw (m, found_tied) (rows_fit t w, (rows_few t w, rows_plan t w))

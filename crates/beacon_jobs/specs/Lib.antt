@@ -1,5 +1,4 @@
 pub mod Needs
 pub mod Limits
 pub mod Listing
-pub mod Making
 pub mod JobRows

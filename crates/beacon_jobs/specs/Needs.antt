@@ -1,13 +1,15 @@
--- What the jobs of an entry need, as a row of sixteen numbers. Assumes nothing.
+-- The jobs of an entry, and what they need. Assumes nothing.
 use Rattle.std.specs.Prelude.{cond, List, ℕ, ◌+◌, ◌≤◌}
 use Rattle.spec_model.specs.Entries.{is_kind, asks}
 use Rattle.spec_model.specs.declared.Entry.{Entry}
 use Rattle.spec_rules.specs.Share.{job_count}
+use Rattle.spec_rules.specs.Slots.{job_length}
+use Rattle.spec_model.specs.declared.Frame.{Frame}
 use Rattle.beacon_share.specs.Shares.{grant_of}
 use Rattle.beacon_share.specs.declared.Granted.{Granted}
 use Rattle.beacon_share.specs.declared.Sharing.{Sharing}
 use Rattle.table_queue.specs.Queues.{largest32}
-use Rattle.beacon_plan.specs.Needs.{needs_row}
+use Rattle.beacon_plan.specs.declared.JobRow.{JobRow}
 
 -- min + extra for kind 1; the step B and C slots of a piece
 abbrev pub need_by : Granted → Entry → ℕ
@@ -17,9 +19,12 @@ need_by g e = cond (is_kind 1 e) (asks e + g.extra.0) (g.piece.0 + g.extra.0)
 abbrev pub need_for : Sharing → List Entry → Entry → ℕ
 need_for s ps e = need_by (grant_of s ps e) e
 
--- its row
-abbrev pub row_by : Sharing → List Entry → Entry → List ℕ
-row_by s ps e = needs_row (job_count e) (need_for s ps e)
+-- its row of jobs
+abbrev pub row_by : Frame → Granted → Entry → JobRow
+row_by F g e = record { name = e.name; length = record { 0 = job_length F e }; count = job_count e; need = record { 0 = need_by g e } }
+
+abbrev pub row_in : Frame → Sharing → List Entry → Entry → JobRow
+row_in F s ps e = row_by F (grant_of s ps e) e
 
 -- its needs have 32 bits
 abbrev pub Narrow : Sharing → List Entry → Entry → Type 0

@@ -8,53 +8,59 @@ ghost use Rattle.spec_rules.specs.Calls.{plan_of};
 ghost use Rattle.spec_rules.specs.WellFormed.{Tidy};
 ghost use Rattle.table_queue.specs.Queues.{largest32, Queued};
 ghost use Rattle.beacon_share.specs.Shares.{shares_of};
-ghost use Rattle.beacon_jobs.specs.Needs.{need_by};
+ghost use Rattle.beacon_jobs.specs.Needs.{need_by, row_by};
 
+use beacon_plan::JobRow;
 use beacon_share::{Granted, Shares};
-use spec_model::{Entry, Slots, Table};
+use spec_model::{Entry, Frame, Kind, Name, Slots, Table};
 use table_queue::Queue;
+
+// No jobs: what stands where no row is made yet.
+const NO_ROW: JobRow = JobRow {
+    name: Name { stream: 0 },
+    length: Slots(0),
+    count: 0,
+    need: Slots(0),
+};
 
 // What each job of an entry needs, by what the entry gets.
 fn need_of(e: Entry, g: Granted) -> Slots
     requires { need_by g e ≤ largest32 }
     ensures { result.0 ≡ need_by g e }
 {
-    let kind = e.kind;
-    if kind == 1 {
-        return Slots(e.min.0 + g.extra.0);
+    match e.kind() {
+        Some(Kind::Fraction) => Slots(e.min.0 + g.extra.0),
+        _ => Slots(g.piece.0 + g.extra.0),
     }
-    Slots(g.piece.0 + g.extra.0)
 }
 
-// The plan of the table's interval in the first words; every later word stays. The loop makes a row for each place of the order; the rows
-// behind are those of free places, of one job that needs nothing.
+// The jobs of an entry, by what it gets.
+fn row_of(f: Frame, e: Entry, g: Granted) -> JobRow
+    requires { need_by g e ≤ largest32 }
+    ensures { result ≡ row_by f g e }
+{
+    JobRow {
+        name: e.name,
+        length: table_entry::job_length(f, e),
+        count: table_entry::job_count(e),
+        need: need_of(e, g),
+    }
+}
+
+// The plan of the table's interval in the first words; every later word stays. The loop makes a row for each place of the order.
 pub fn write_jobs(t: Table, q: Queue, s: Shares, plan: &mut [u32]) -> usize
     requires tidy { Tidy t × Queued t q }
     requires s_value { s ≡ shares_of t }
     requires plan_words_in_bounds { plan_words ≤ length plan.old }
     ensures { (result ≡ length (plan_of t)) × (plan.new ≡ words_of (plan_of t) ++ drop (record_words * result) plan.old) }
 {
-    let ranks = q.ranks;
-    let o = beacon_order::ordered(ranks, q.used);
+    let o = beacon_order::ordered(&q.claims[..q.used]);
     let frame = t.frame;
-    let count = o.count;
-    let free = spec_model::free_entry();
-    let nobody = free.name;
-    let mut names = [nobody; spec_model::PLACES];
-    let mut lengths = [frame.slots.0; spec_model::PLACES];
-    let mut counts = [1u32; spec_model::PLACES];
-    let mut each = [0u32; spec_model::PLACES];
-    for k in 0..count {
-        let i = o.places[k];
-        let e = t.entries[i];
-        let length = table_entry::job_length(frame, e);
-        let g = s.grants[i];
-        let need = need_of(e, g);
-        let name = e.name;
-        names[k] = name;
-        lengths[k] = length.0;
-        counts[k] = table_entry::job_count(e);
-        each[k] = need.0;
+    let mut rows = [NO_ROW; spec_model::PLACES];
+    let listed = &o.places[..o.count];
+    for (k, place) in listed.iter().enumerate() {
+        let i = *place;
+        rows[k] = row_of(frame, t.entries[i], s.grants[i]);
     }
-    beacon_plan::write_plan(frame, count, names, &lengths, &counts, &each, plan)
+    beacon_plan::write_plan(frame, &rows[..listed.len()], plan)
 }

@@ -1,2 +1,4 @@
 pub mod Ties
 pub mod TiePlaces
+pub mod InUse
+pub mod Unique

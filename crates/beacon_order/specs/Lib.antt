@@ -3,5 +3,4 @@ pub mod Filled
 pub mod Sorts
 pub mod Listed
 pub mod Keys
-pub mod Inserted
 pub mod Filling

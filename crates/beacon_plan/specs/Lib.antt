@@ -4,7 +4,7 @@ pub mod RowLaws
 pub mod Needs
 pub mod Heads
 pub mod Places
-pub mod Kept
+pub mod Progress
 pub mod Next
 pub mod Turns
 pub mod Pending

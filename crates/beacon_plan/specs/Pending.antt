@@ -1,12 +1,6 @@
 -- The runs that are to be recorded, where a pen has begun the first of them. Assumes nothing.
-use Rattle.std.specs.Prelude.{◌≡◌, Bool, ℕ, ◌+◌, ◌≤◌}
-use Rattle.std.proofs.Math.Path.{refl, sym, ap}
-use Rattle.std.proofs.Common.{◌∙◌}
-use Rattle.std.proofs.Math.Bool.{true, false, cond}
-use mathlib.Core.List.{List, [], ◌∷◌, ◌++◌}
-use native.Mathlib.Omega.{arith}
-use Rattle.std.proofs.Math.Dec.{eqb}
-use Rattle.std.proofs.Math.ListN.{length}
+use Rattle.std.specs.Prelude.{◌≡◌, refl, Bool, true, false, cond, Option, None, Some, List, [], ◌++◌, ℕ, ◌+◌, ◌≤◌, eqb, length}
+use Rattle.std.proofs.Common.{sym, ap, ◌∙◌, arith}
 use borrow.Author.Tests.{ne_eqb, eqb-true}
 use Rattle.base_lists.specs.Tests.{and_both}
 use Rattle.spec_model.specs.Names.{same}
@@ -14,18 +8,27 @@ use Rattle.spec_rules.specs.Slots.{JobName, Run}
 use Rattle.law_model.specs.Names.{same_true}
 use Rattle.law_slots.specs.Events.{joined}
 use Rattle.law_slots.proofs.Events.{joined_joined, joined_apart}
+use Rattle.plan_record.specs.declared.Record.{Record}
 use Rattle.plan_record.specs.declared.Pen.{Pen}
-use Rattle.plan_record.specs.Recorded.{run_of}
-use Rattle.plan_record.specs.Pens.{owner, blank, open_run, grows, closed, onward, anew, extended}
+use Rattle.plan_record.specs.Pens.{owner, blank, run_in, open_run, grows, closed, longer, onward, anew, extended}
+
+-- a run that may still grow, before the runs that follow it
+abbrev before : Option Record → List Run → List Run
+before None rs = rs
+before (Some r) rs = joined r.length.0 r.start.0 (owner r) rs
 
 -- the runs that follow the records written, the pen's among them, where rs follow the pen's
 unfoldable pub pending : Pen → List Run → List Run
-pending p rs = cond (eqb p.run.length.0 0) rs (joined p.run.length.0 p.run.start.0 (owner p.run) rs)
+pending p rs = before p.run rs
 
 -- ---- the runs to come
 pub pending_end : (p : Pen) → pending p [] ≡ open_run p
 unfolding pending open_run joined
-pending_end p = refl
+pending_end p = go p.run
+  where
+    go : (r : Option Record) → before r [] ≡ run_in r
+    go None = refl
+    go (Some r) = refl
 
 pub pending_blank : (rs : List Run) → pending blank rs ≡ rs
 unfolding pending
@@ -38,36 +41,27 @@ module _ (p : Pen) (k : JobName) (t n : ℕ) (h : 1 ≤ n) (rs : List Run) where
 
   -- slots that go on from the pen's run
   pending_grown : grows p.run k t ≡ true → pending (onward p n) rs ≡ pending p (joined n t k rs)
-  unfolding pending grows
-  pending_grown g =
-      let a = and_both (same k.name p.run.name) _ g in
-      let b = and_both (eqb k.number p.run.job) _ a.1 in
-      let e : t ≡ p.run.start.0 + p.run.length.0 = eqb-true t (p.run.start.0 + p.run.length.0) b.1 in
-      let f : p.run.length.0 + n ≡ 0 → ⊥ = λ z. omega arith in
-      let o : k ≡ owner p.run =
-      λ i. record { name = same_true k.name p.run.name a.0 i; number = eqb-true k.number p.run.job b.0 i } in
-      rw (ne_eqb (p.run.length.0 + n) 0 f, o, e) (go p.run.length.0 (eqb p.run.length.0 0) refl)
+  unfolding pending
+  pending_grown g = go p.run g
     where
-      go : (l : ℕ) (b : Bool) → eqb l 0 ≡ b
-          → joined (l + n) p.run.start.0 (owner p.run) rs
-          ≡ cond b (joined n (p.run.start.0 + l) (owner p.run) rs)
-          (joined l p.run.start.0 (owner p.run) (joined n (p.run.start.0 + l) (owner p.run) rs))
-      go l true g =
-          let z : l ≡ 0 = eqb-true l 0 g in
-          let x : p.run.start.0 + l ≡ p.run.start.0 = omega arith in
-          let y : l + n ≡ n = omega arith in
-          rw (x, y)
-      go l false g = sym (joined_joined l n p.run.start.0 (owner p.run) rs)
+      go : (r : Option Record) → grows r k t ≡ true → before (longer r n) rs ≡ before r (joined n t k rs)
+      go None g = absurd (cc)
+      go (Some r) g =
+          let a = and_both (same k.name r.name) _ g in
+          let b = and_both (eqb k.number r.job) _ a.1 in
+          let e : t ≡ r.start.0 + r.length.0 = eqb-true t (r.start.0 + r.length.0) b.1 in
+          let o : k ≡ owner r =
+          λ i. record { name = same_true k.name r.name a.0 i; number = eqb-true k.number r.job b.0 i } in
+          rw (o, e) (sym (joined_joined r.length.0 n r.start.0 (owner r) rs))
 
   -- slots that do not
   pending_apart : grows p.run k t ≡ false → open_run p ++ joined n t k rs ≡ pending p (joined n t k rs)
-  unfolding pending open_run grows
-  pending_apart g = go (eqb p.run.length.0 0)
+  unfolding pending open_run
+  pending_apart g = go p.run g
     where
-      go : (b : Bool) → cond b [] (run_of p.run ∷ []) ++ joined n t k rs
-          ≡ cond b (joined n t k rs) (joined p.run.length.0 p.run.start.0 (owner p.run) (joined n t k rs))
-      go true = refl
-      go false = sym (joined_apart p.run.length.0 p.run.start.0 (owner p.run) n t k rs g)
+      go : (r : Option Record) → grows r k t ≡ false → run_in r ++ joined n t k rs ≡ before r (joined n t k rs)
+      go None g = refl
+      go (Some r) g = sym (joined_apart r.length.0 r.start.0 (owner r) n t k rs g)
 
   -- the runs to come are the same: the one that ends, if any, and those after it
   pub extended_pending : closed p k t ++ pending (extended p k t n) rs ≡ pending p (joined n t k rs)

@@ -1,8 +1,8 @@
 -- The plan by events: what stands at time t, where it begins, what a run of one job or idle time makes of it, and that it ends with the
 -- plan. Assumes nothing.
-use Rattle.std.specs.Prelude.{◌≡◌, refl, cond, List, [], ◌++◌, map, ℕ, ◌+◌, ◌*◌, ◌-◌, ◌≤◌, ◌<◌, min, get_or, drop}
+use Rattle.std.specs.Prelude.{◌≡◌, refl, Option, None, Some, List, [], ◌++◌, map, ℕ, ◌+◌, ◌*◌, ◌-◌, ◌≤◌, ◌<◌, min, get_or, drop}
 use Rattle.std.proofs.Math.Path.{sym, ap}
-use Rattle.std.proofs.Common.{subst, subst₂, ◌∙◌, append_assoc, length-set, length-append, length-drop, lt-ltb, le-ltb}
+use Rattle.std.proofs.Common.{subst, subst₂, ◌∙◌, append_assoc, length-set, length-append, length-drop}
 use Rattle.std.proofs.Math.Option.{none, some}
 use native.Mathlib.Omega.{arith}
 use Rattle.std.proofs.Math.ListN.{length}
@@ -10,7 +10,7 @@ use Rattle.spec_lists.specs.Lists.{keep}
 use Rattle.spec_lists.specs.All.{All}
 use Rattle.base_lists.specs.All.{all_at}
 use Rattle.spec_model.specs.Names.{nobody}
-use Rattle.spec_model.specs.Tables.{places}
+use Rattle.spec_model.specs.Tables.{places, no_place}
 use Rattle.spec_model.specs.declared.Name.{Name}
 use Rattle.spec_rules.specs.Slots.{Job, choose, slots_from, Run, runs_from}
 use Rattle.spec_rules.specs.Records.{record_words, plan_words, words_of}
@@ -25,10 +25,11 @@ use Rattle.plan_record.specs.declared.Pen.{Pen}
 use Rattle.plan_record.specs.Pens.{named, blank, open_run, end_of, closed, extended, extended_count, extended_ends}
 use Rattle.beacon_plan.specs.Rows.{few_runs, unfinished, row_jobs, row_plan, Length, Rows}
 use Rattle.beacon_plan.specs.Skipped.{Skipped, Changed, skipped_done, keys_spent, changed_spent, run_changed}
-use Rattle.beacon_plan.specs.RowLaws.{Wide, need_at, with_need, job_in, in_row, rows_changed, wide_with}
-use Rattle.beacon_plan.specs.Heads.{head_at}
-use Rattle.beacon_plan.specs.Places.{Short, short, releases_of, chosen_at, held_by, head_in, place_chosen}
-use Rattle.beacon_plan.specs.Kept.{Firsts}
+use Rattle.beacon_plan.specs.RowLaws.{Wide, need_at, with_need, job_in, in_row, in_rows, rows_changed, wide_with}
+use Rattle.beacon_plan.specs.Heads.{first_left}
+use Rattle.beacon_plan.specs.Places.{Short, short, no_release, releases_of, chosen_at, head_in, place_chosen}
+use Rattle.beacon_plan.specs.declared.Progress.{Progress}
+use Rattle.beacon_plan.specs.Progress.{rows_of, heads_in, chosen_from, chosen_placed, job_of, job_placed}
 use Rattle.beacon_plan.specs.Next.{next_of, next_ahead, next_quiet}
 use Rattle.beacon_plan.specs.Turns.{turns, next_turn, job_turn}
 use Rattle.beacon_plan.specs.Pending.{pending, pending_end, pending_blank, extended_pending}
@@ -39,8 +40,8 @@ to_run b t js = runs_from t (slots_from (b - t) t js)
 
 -- what the rows have, however their jobs run
 pub record Given (b : ℕ) (ss : List Name) (Ts : List ℕ) : Type 0 where
-  pub streams : length ss ≡ places
-  pub lengths : length Ts ≡ places
+  pub streams : length ss ≡ length Ts
+  pub few : length Ts ≤ places
   pub short : b ≤ most_slots
   pub each : All (Length b) Ts
 
@@ -52,7 +53,7 @@ lengths_short g = short g.short g.each
 pub record State (b t : ℕ) (ss : List Name) (Ts : List ℕ) (total : List Run) (old ws : List ℕ) (nss : List (List ℕ)) (p : Pen) : Type 0 where
   pub given : Given b ss Ts
   pub time : t ≤ b
-  pub rows : length nss ≡ places
+  pub rows : length nss ≡ length Ts
   pub wide : Wide nss
   pub left : List Job
   pub skipped : Skipped (row_jobs ss Ts nss) left
@@ -64,7 +65,7 @@ pub record State (b t : ℕ) (ss : List Name) (Ts : List ℕ) (total : List Run)
   pub ended : end_of p.run ≤ t
 
 pub begin : {b h : ℕ} {ss : List Name} {Ts : List ℕ} {nss : List (List ℕ)} (old : List ℕ) → Rows b ss Ts nss → Given b ss Ts → h ≤ b
-    → length nss ≡ places → Wide nss → {p : Pen} → p ≡ blank → State b h ss Ts (row_plan b h ss Ts nss) old old nss p
+    → length nss ≡ length Ts → Wide nss → {p : Pen} → p ≡ blank → State b h ss Ts (row_plan b h ss Ts nss) old old nss p
 unfolding row_plan words_of
 begin {b} {h} {ss} {Ts} {nss} old r g q l w e =
     rw e record {
@@ -115,29 +116,28 @@ module _ {b t : ℕ} {ss : List Name} {Ts : List ℕ} {total : List Run} {old ws
         ap (recorded p.count (open_run p)) s.words ∙ recorded_after old s.done (open_run p) p.count s.count ∙ rw e,
       )
 
-  -- the place chosen: its first unfinished job is the choice, and one of its sixteen; or it is none
-  module _ (h : t < b) {hs rs : List ℕ} (k : Firsts Ts nss hs rs) {i : ℕ} (f : i ≡ chosen_at t Ts rs) where
-    held : held_by (head_in ss Ts nss) i ≡ choose t (row_jobs ss Ts nss)
+  -- the place chosen: its first unfinished job is the choice, and one of its sixteen; or there is none
+  module _ (h : t < b) {ps : List Progress} (k : ps ≡ rows_of Ts nss) {c : Option ℕ} (f : c ≡ chosen_from t 0 None no_release (heads_in ps)) where
+    held : job_of (head_in ss Ts nss) c ≡ choose t (row_jobs ss Ts nss)
     held =
         let g = s.given in
-        ap (held_by (head_in ss Ts nss)) (f ∙ ap (chosen_at t Ts) (k.releases ∙ ap (releases_of Ts) k.heads))
-        ∙ place_chosen t ss Ts nss g.streams g.lengths s.rows s.wide (lengths_short g) (omega (arith, g.short))
+        let x = chosen_placed t 0 no_place no_release Ts nss (omega (arith, g.short)) (omega arith) (omega (arith, g.few)) in
+        ap (job_of (head_in ss Ts nss)) (f ∙ ap (λ l. chosen_from t 0 None no_release (heads_in l)) k ∙ x)
+        ∙ job_placed (head_in ss Ts nss) (chosen_at t Ts (releases_of Ts (map first_left nss)))
+        ∙ place_chosen t ss Ts nss g.streams s.rows g.few s.wide (lengths_short g) (omega (arith, g.short))
 
-    pub none_chosen : places ≤ i → choose t (row_jobs ss Ts nss) ≡ none
-    none_chosen l = sym held ∙ ap (λ x. cond x (some (head_in ss Ts nss i)) none) (le-ltb i places l)
+    pub none_chosen : c ≡ None → choose t (row_jobs ss Ts nss) ≡ none
+    none_chosen e = sym held ∙ ap (job_of (head_in ss Ts nss)) e
 
-    pub job_chosen : i < places → (choose t (row_jobs ss Ts nss) ≡ some (job_in ss Ts nss i (get_or hs i 0))) × (get_or hs i 0 < 16)
-    job_chosen l =
-        let c : choose t (row_jobs ss Ts nss) ≡ some (job_in ss Ts nss i (get_or hs i 0)) =
-        sym held ∙ ap (λ x. cond x (some (head_in ss Ts nss i)) none) (lt-ltb i places l)
-        ∙ ap (λ j. some (job_in ss Ts nss i j)) (sym (ap (λ xs. get_or xs i 0) k.heads ∙ head_at nss i)) in
-        let r : i < length nss = omega (arith, s.rows) in (
-          c,
-          omega (
-            arith,
-            in_row (get_or nss i []) (get_or hs i 0) (chosen_needs t (row_jobs ss Ts nss) c),
-            all_at (λ (ns : List ℕ). length ns ≡ 16) nss [] s.wide i r,
-          ),
+    pub job_chosen : {i : ℕ} → c ≡ Some i → let j = first_left (get_or nss i []) in
+        (choose t (row_jobs ss Ts nss) ≡ some (job_in ss Ts nss i j)) × ((i < length Ts) × (j < 16))
+    job_chosen {i} e =
+        let j : ℕ = first_left (get_or nss i []) in
+        let o : choose t (row_jobs ss Ts nss) ≡ some (job_in ss Ts nss i j) = sym held ∙ ap (job_of (head_in ss Ts nss)) e in
+        let n : 1 ≤ need_at nss i j = chosen_needs t (row_jobs ss Ts nss) o in
+        let r : i < length nss = in_rows nss i j n in (
+          o,
+          (omega (arith, s.rows), omega (arith, in_row (get_or nss i []) j n, all_at (λ (ns : List ℕ). length ns ≡ 16) nss [] s.wide i r)),
         )
 
   module _ (h : t < b) where
@@ -150,7 +150,7 @@ module _ {b t : ℕ} {ss : List Name} {Ts : List ℕ} {total : List Run} {old ws
     idle_less f =
         let g = s.given in
         rw f
-        (next_turn b t ss Ts nss (omega (arith, g.streams, g.lengths)) (omega (arith, g.lengths, s.rows)) h g.each s.wide)
+        (next_turn b t ss Ts nss g.streams s.rows h g.each s.wide)
 
     -- Idle time, to the next release.
     pub idle_step : {m : ℕ} → m ≡ next_of b t Ts → choose t (row_jobs ss Ts nss) ≡ none → State b m ss Ts total old ws nss p
@@ -181,7 +181,7 @@ module _ {b t : ℕ} {ss : List Name} {Ts : List ℕ} {total : List Run} {old ws
 
     -- n slots of job j of row i, to the nearer of its end and the next release. The jobs are those of the rows with the need that is
     -- left; the run that ends, if any, is one record more; and the runs to come are the same.
-    module _ (i j n : ℕ) (f : n ≡ min (need_at nss i j) (next_of b t Ts - t)) (w : i < places) (y : j < 16)
+    module _ (i j n : ℕ) (f : n ≡ min (need_at nss i j) (next_of b t Ts - t)) (w : i < length Ts) (y : j < 16)
         (e : choose t (row_jobs ss Ts nss) ≡ some (job_in ss Ts nss i j)) where
       -- one job of the rows needs n slots less
       left_changed : Changed (job_in ss Ts nss i j) (less_by n (job_in ss Ts nss i j)) (row_jobs ss Ts nss)
@@ -189,7 +189,7 @@ module _ {b t : ℕ} {ss : List Name} {Ts : List ℕ} {total : List Run} {old ws
       left_changed =
           let r : i < length nss = omega (arith, s.rows) in
           let g = s.given in
-          rows_changed ss Ts nss i j (need_at nss i j - n) (omega (arith, g.streams)) (omega (arith, g.lengths)) r
+          rows_changed ss Ts nss i j (need_at nss i j - n) (omega (arith, g.streams)) w r
           (omega (arith, all_at (λ (ns : List ℕ). length ns ≡ 16) nss [] s.wide i r))
 
       -- the job has ended, or a release or the end has come

@@ -112,7 +112,7 @@ job_turn b t n m {x} {js} {ks} w h k e l q =
     ]
 
 -- ---- few at the start
-pub turns_few : (b : ℕ) (ss : List Name) (Ts : List ℕ) (nss : List (List ℕ)) → length nss ≡ places → Wide nss
+pub turns_few : (b : ℕ) (ss : List Name) (Ts : List ℕ) (nss : List (List ℕ)) → length nss ≤ places → Wide nss
     → turns b 0 (row_jobs ss Ts nss) ≤ few_runs + 1
 unfolding turns
 turns_few b ss Ts nss l w = omega (arith, rows_come ss Ts nss w, one_if_most (ltb 0 b))

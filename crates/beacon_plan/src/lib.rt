@@ -1,226 +1,224 @@
 // The slot plan of one interval, by events: at time t the job chosen runs to the nearer of its end and the next release. So the work
-// grows with the jobs and not with the slots. Rows stand in the order of the tie rules, one for each stream; job j of row i is
-// released at j times its length. Of a row only the first unfinished job matters: heads has its number and releases its release, and they
-// change where it ends. A turn ends a job, or comes to a release or to the end: there are at most 993 of them (specs/Turns.antt).
+// grows with the jobs and not with the slots. Rows stand in the order of the tie rules, one for each stream; job j of a row is
+// released at j times its length. Of a row only the first unfinished job matters: its head has its number and when it is released and due,
+// and changes where it ends. A turn ends a job, or comes to a release or to the end: there are at most 993 of them (specs/Turns.antt).
 #![tactic(auto)]
 
-ghost use Rattle.std.specs.Prelude.{◌≡◌, [], ◌++◌, map, ◌+◌, ◌*◌, ◌-◌, ◌≤◌, ◌<◌, min, length, drop, get_or, set, replicate};
+ghost use Rattle.std.specs.Prelude.{◌≡◌, ◌++◌, None, MatchOption, position, nat_lt, ◌*◌, ◌-◌, ◌≤◌, ◌<◌, min, length, drop, set};
 ghost use Rattle.spec_lists.specs.All.{All};
 ghost use Rattle.spec_model.specs.Frames.{slots_in, header_in};
 ghost use Rattle.spec_model.specs.Tables.{places};
 ghost use Rattle.spec_rules.specs.Records.{record_words, most_records, plan_words, words_of};
 ghost use Rattle.law_model.specs.Frames.{most_slots};
-ghost use Rattle.beacon_plan.specs.Rows.{Length, Rows, Padded, Spare, row_plan};
-ghost use Rattle.beacon_plan.specs.Needs.{Counted, needs_row, need_rows};
-ghost use Rattle.beacon_plan.specs.RowLaws.{Wide, with_need};
+ghost use Rattle.plan_record.specs.Pens.{named, slots_of};
+ghost use Rattle.beacon_plan.specs.Rows.{Length, Rows, row_plan};
+ghost use Rattle.beacon_plan.specs.Needs.{names_of, lengths_of, needs_of, Few};
 ghost use Rattle.beacon_plan.specs.Heads.{first_left};
-ghost use Rattle.beacon_plan.specs.Kept.{Firsts, head_need};
 ghost use Rattle.beacon_plan.specs.Next.{next_of};
-ghost use Rattle.beacon_plan.specs.Places.{Short, no_release, release_of, releases_of, chosen_at};
+ghost use Rattle.beacon_plan.specs.Progress.{head_of, head_need, row_of, begun, begun_rows, heads_in, chosen_from};
+ghost use Rattle.beacon_plan.specs.Places.{Short, no_release};
 
+use plan_record::{Pen, Record};
 use spec_model::{Frame, Name, Slots};
 
-// Later than any job of an interval is due.
-const NO_RELEASE: u32 = 4294967295;
+// The jobs of one stream in an interval, in their order: how many, how long each is, and what each needs.
+#[derive(Clone, Copy)]
+pub struct JobRow {
+    pub name: Name,
+    pub length: Slots,
+    pub count: u32,
+    pub need: Slots,
+}
 
-// The first release after t of any row's jobs; at most b, the end. Rows as long as the interval release none before it.
-fn next_release(b: Slots, rows: usize, lengths: &[u32; 32], t: Slots) -> Slots
-    requires t_lt_b { (t.0 < b.0) × ((b.0 ≤ most_slots) × All (Length b.0) lengths.now) }
-    requires padded { Padded rows b.0 lengths.now }
-    ensures { result.0 ≡ next_of b.0 t.0 lengths.now }
+// A row's first unfinished job: its number, and when it is released and due.
+#[derive(Clone, Copy)]
+struct Head {
+    job: usize,
+    release: Slots,
+    due: Slots,
+}
+
+// How far the jobs of a row have come: what each still needs, and the first that needs something.
+#[derive(Clone, Copy)]
+struct Progress {
+    left: [u32; 16],
+    head: Head,
+}
+
+// The number of a row's first unfinished job, by what each needs.
+fn first_left(left: &[u32; 16]) -> Option<usize>
+    ensures number { result ≡ position (λ n. nat_lt 0 n) left.now }
+    ensures within { MatchOption result Unit (λ j. j < 16) }
 {
-    let mut next = b;
-    for i in 0..rows {
-        let length = lengths[i];
-        let release = (t.0 / length + 1) * length;
-        next = Slots(base_numbers::smaller(next.0, release));
+    left.iter().position(|need| 0 < *need)
+}
+
+impl Head {
+    // Later than any job of an interval is due.
+    const NEVER: Slots = Slots(u32::MAX);
+
+    // Where no job is left: a seventeenth, never released. With an Option each turn would test one more thing of each row, and a job that runs
+    // would first have to be found there again, with a branch that never runs.
+    const NONE: Head = Head {
+        job: 16,
+        release: Self::NEVER,
+        due: Self::NEVER,
+    };
+
+    // That of jobs of one length, by what they need.
+    fn of(job_length: Slots, left: &[u32; 16]) -> Head
+        requires { job_length.0 ≤ most_slots }
+        ensures { result ≡ head_of job_length.0 left.now }
+    {
+        let Some(job) = first_left(left) else {
+            return Head::NONE;
+        };
+        let release = (job as u32) * job_length.0;
+        Head {
+            job,
+            release: Slots(release),
+            due: Slots(release + job_length.0),
+        }
     }
-    next
+}
+
+impl JobRow {
+    // None of its jobs has run.
+    fn begin(self) -> Progress
+        requires { (self.count ≤ 16) × (self.length.0 ≤ most_slots) }
+        ensures { result ≡ begun self }
+    {
+        let mut left = [0u32; 16];
+        left[..self.count as usize].fill(self.need.0);
+        let head = Head::of(self.length, &left);
+        Progress { left, head }
+    }
+}
+
+impl Progress {
+    const NONE: Progress = Progress {
+        left: [0; 16],
+        head: Head::NONE,
+    };
+
+    // The first unfinished job of the row runs from t on for what it needs, at most to the end: its slots. Where it ends, the next of its row
+    // is the first.
+    fn run(&mut self, row: JobRow, t: Slots, end: Slots) -> Record
+        requires sized { (row.length.0 ≤ most_slots) × ((length self.old.left ≡ 16) × (t.0 ≤ end.0)) }
+        requires head { (self.old.head ≡ head_of row.length.0 self.old.left) × (1 ≤ head_need self.old.left) }
+        ensures { let n = min (head_need self.old.left) (end.0 - t.0) in
+            (result ≡ slots_of (named row.name (first_left self.old.left)) t.0 n)
+            × (self.new ≡ row_of row.length.0 (set self.old.left (first_left self.old.left) (head_need self.old.left - n))) }
+    {
+        let job = self.head.job;
+        let need = self.left[job];
+        let n = need.min(end.0 - t.0);
+        self.left[job] = need - n;
+        if need == n {
+            self.head = Head::of(row.length, &self.left);
+        }
+        Record {
+            name: row.name,
+            job: job as u32,
+            start: t,
+            length: Slots(n),
+        }
+    }
+}
+
+// No job of any row has run.
+fn begin_rows(rows: &[JobRow], progress: &mut [Progress])
+    requires few { Few rows.now × Short (lengths_of rows.now) }
+    requires progress_len { length progress.old ≡ length rows.now }
+    ensures { progress.new ≡ begun_rows rows.now }
+{
+    for (i, row) in rows.iter().enumerate() {
+        progress[i] = row.begin();
+    }
+}
+
+// The first release after t of any row's jobs; at most b, the end.
+fn next_release(b: Slots, rows: &[JobRow], t: Slots) -> Slots
+    requires { (t.0 < b.0) × ((b.0 ≤ most_slots) × All (Length b.0) (lengths_of rows.now)) }
+    ensures { result.0 ≡ next_of b.0 t.0 (lengths_of rows.now) }
+{
+    let mut next = b.0;
+    for row in rows {
+        let release = (t.0 / row.length.0 + 1) * row.length.0;
+        next = next.min(release);
+    }
+    Slots(next)
 }
 
 // The same; the one found last still is the next while it is ahead, so that it is looked for only where one has come.
-fn next_after(b: Slots, rows: usize, lengths: &[u32; 32], t: Slots, next: Slots) -> Slots
-    requires t_lt_b { (t.0 < b.0) × ((b.0 ≤ most_slots) × All (Length b.0) lengths.now) }
-    requires next_value { t.0 < next.0 → next.0 ≡ next_of b.0 t.0 lengths.now }
-    requires padded { Padded rows b.0 lengths.now }
-    ensures { result.0 ≡ next_of b.0 t.0 lengths.now }
+fn next_after(b: Slots, rows: &[JobRow], t: Slots, next: Slots) -> Slots
+    requires t_lt_b { (t.0 < b.0) × ((b.0 ≤ most_slots) × All (Length b.0) (lengths_of rows.now)) }
+    requires next_value { t.0 < next.0 → next.0 ≡ next_of b.0 t.0 (lengths_of rows.now) }
+    ensures { result.0 ≡ next_of b.0 t.0 (lengths_of rows.now) }
 {
     if t.0 < next.0 {
         return next;
     }
-    next_release(b, rows, lengths, t)
+    next_release(b, rows, t)
 }
 
-// So many jobs of one need in row k, where nothing was needed; nothing behind them.
-fn fill_row(needs: &mut [[u32; 16]; 32], k: usize, count: u32, need: Slots)
-    requires k_lt_places { (k < places) × ((length needs.old ≡ places) × (count ≤ 16)) }
-    requires k_value { get_or needs.old k [] ≡ replicate 16 0 }
-    ensures { needs.new ≡ set needs.old k (needs_row count need.0) }
+// The place of the job that slot t goes to: of those due first the first; none where the slot is idle.
+fn choose_place(t: Slots, progress: &[Progress]) -> Option<usize>
+    requires { length progress.now ≤ places }
+    ensures place { result ≡ chosen_from t.0 0 None no_release (heads_in progress.now) }
+    ensures within { MatchOption result Unit (λ i. i < length progress.now) }
 {
-    let n = count as usize;
-    for j in 0..n {
-        needs[k][j] = need.0;
-    }
-}
-
-// The same in each row; those behind the first rows need nothing.
-fn fill_rows(needs: &mut [[u32; 16]; 32], rows: usize, counts: &[u32; 32], each: &[u32; 32])
-    requires needs_value { (needs.old ≡ replicate places (replicate 16 0)) × Counted counts.now each.now }
-    requires padded { Padded rows (replicate 16 0) (need_rows counts.now each.now) }
-    ensures { needs.new ≡ need_rows counts.now each.now }
-{
-    for i in 0..rows {
-        fill_row(needs, i, counts[i], Slots(each[i]));
-    }
-}
-
-// The number of a row's first unfinished job; 16 where there is none.
-fn first_left(row: [u32; 16]) -> usize
-    ensures { result ≡ first_left row }
-{
-    for j in 0..16 {
-        if 0 < row[j] {
-            return j;
-        }
-    }
-    16
-}
-
-// The same of each row; those behind the first rows need nothing.
-fn fill_heads(heads: &mut [usize; 32], rows: usize, needs: &[[u32; 16]; 32])
-    requires { (heads.old ≡ replicate places 16) × Padded rows (replicate 16 0) needs.now }
-    ensures { heads.new ≡ map first_left needs.now }
-{
-    for i in 0..rows {
-        let row = needs[i];
-        heads[i] = first_left(row);
-    }
-}
-
-// When a row's first unfinished job is released, where each is so many slots long; NO_RELEASE where it has none.
-fn release_of(length: Slots, job: usize) -> Slots
-    requires { length.0 ≤ most_slots }
-    ensures { result.0 ≡ release_of length.0 job }
-{
-    if 16 <= job {
-        return Slots(NO_RELEASE);
-    }
-    Slots((job as u32) * length.0)
-}
-
-// The same of each row; those behind the first rows have none.
-fn fill_releases(releases: &mut [u32; 32], rows: usize, lengths: &[u32; 32], heads: &[usize; 32])
-    requires releases_value { (releases.old ≡ replicate places no_release) × ((length lengths.now ≡ places) × Short lengths.now) }
-    requires padded { Padded rows 16 heads.now }
-    ensures { releases.new ≡ releases_of lengths.now heads.now }
-{
-    for i in 0..rows {
-        let release = release_of(Slots(lengths[i]), heads[i]);
-        releases[i] = release.0;
-    }
-}
-
-// The place of the job that slot t goes to: of those due first the first; no place where the slot is idle.
-fn choose_place(t: Slots, rows: usize, lengths: &[u32; 32], releases: &[u32; 32]) -> usize
-    requires t_le_most_slots { (t.0 ≤ most_slots) × ((length lengths.now ≡ places) × Short lengths.now) }
-    requires padded { Padded rows no_release releases.now }
-    ensures { result ≡ chosen_at t.0 lengths.now releases.now }
-{
+    // An Option in the loop costs four beacons 13 percent more instructions.
     let mut place = spec_model::NO_PLACE;
-    let mut best = NO_RELEASE;
-    for i in 0..rows {
-        let release = releases[i];
-        if release <= t.0 {
-            let due = release + lengths[i];
-            if due < best {
-                place = i;
-                best = due;
-            }
+    let mut best = Head::NEVER.0;
+    for (i, row) in progress.iter().enumerate() {
+        if row.head.release.0 <= t.0 && row.head.due.0 < best {
+            place = i;
+            best = row.head.due.0;
         }
     }
-    place
-}
-
-// The first unfinished job of row i runs for what it needs, at most so many slots: for how many. Where it ends, the next is its row's first.
-fn run_job(
-    left: &mut [[u32; 16]; 32],
-    heads: &mut [usize; 32],
-    releases: &mut [u32; 32],
-    lengths: &[u32; 32],
-    i: usize,
-    most: Slots,
-) -> Slots
-    requires i_lt_places { (i < places) × ((length lengths.now ≡ places) × Short lengths.now) }
-    requires left_len { (length left.old ≡ places) × Wide left.old }
-    requires firsts { Firsts lengths.now left.old heads.old releases.old × (1 ≤ head_need left.old heads.old i) }
-    ensures { let need = head_need left.old heads.old i in
-        (result.0 ≡ min need most.0)
-        × ((left.new ≡ with_need left.old i (get_or heads.old i 0) (need - result.0))
-        × Firsts lengths.now left.new heads.new releases.new) }
-{
-    let j = heads[i];
-    let need = left[i][j];
-    let n = base_numbers::smaller(need, most.0);
-    left[i][j] = need - n;
-    if need == n {
-        let row = left[i];
-        let first = first_left(row);
-        heads[i] = first;
-        let release = release_of(Slots(lengths[i]), first);
-        releases[i] = release.0;
+    if place < spec_model::PLACES {
+        return Some(place);
     }
-    Slots(n)
+    None
 }
 
-// The records of the plan in the first words, and how many there are, where row i has counts[i] jobs that need each[i] slots. Every later
-// word stays as it was. The first slot that is given is the one after the header. Only the first rows have jobs, so that the work grows with
-// them. What the jobs still need is made here, where it is used up, so that no array of it is copied.
-pub fn write_plan(
-    f: Frame,
-    rows: usize,
-    names: [Name; 32],
-    lengths: &[u32; 32],
-    counts: &[u32; 32],
-    each: &[u32; 32],
-    plan: &mut [u32],
-) -> usize
-    requires rows { Rows (slots_in f) names lengths.now (need_rows counts.now each.now)
+// The runs from t on, as records of the plan in the first words: how many. Every later word stays as it was.
+fn write_runs(f: Frame, rows: &[JobRow], progress: &mut [Progress], plan: &mut [u32]) -> usize
+    requires rows { Rows (slots_in f) (names_of rows.now) (lengths_of rows.now) (needs_of rows.now)
         × ((plan_words ≤ length plan.old) × (header_in f ≤ slots_in f)) }
-    requires rows_le_places { (rows ≤ places) × Spare (slots_in f) rows lengths.now (need_rows counts.now each.now) }
-    requires lengths_len { (length lengths.now ≡ places) × Counted counts.now each.now }
-    ensures { let needs = need_rows counts.now each.now in
-        let runs = row_plan (slots_in f) (header_in f) names lengths.now needs in
+    requires few { Few rows.now × (progress.old ≡ begun_rows rows.now) }
+    ensures { let runs = row_plan (slots_in f) (header_in f) (names_of rows.now) (lengths_of rows.now) (needs_of rows.now) in
         (result ≡ length runs) × ((result ≤ most_records) × (plan.new ≡ words_of runs ++ drop (record_words * result) plan.old)) }
 {
     let b = f.slots;
-    let mut left = [[0u32; 16]; spec_model::PLACES];
-    fill_rows(&mut left, rows, counts, each);
-    let mut heads = [16usize; spec_model::PLACES];
-    fill_heads(&mut heads, rows, &left);
-    let mut releases = [NO_RELEASE; spec_model::PLACES];
-    fill_releases(&mut releases, rows, lengths, &heads);
-    let mut pen = plan_record::blank_pen();
+    let mut pen = Pen::blank();
     let mut t = f.header;
     let mut next = Slots(0);
     while t.0 < b.0 {
-        next = next_after(b, rows, lengths, t, next);
-        let i = choose_place(t, rows, lengths, &releases);
-        if i < spec_model::PLACES {
-            let j = heads[i];
-            let n = run_job(
-                &mut left,
-                &mut heads,
-                &mut releases,
-                lengths,
-                i,
-                Slots(next.0 - t.0),
-            );
-            let name = names[i];
-            pen = plan_record::extend_run(pen, plan, name, j as u32, t, n);
-            t = Slots(t.0 + n.0);
-        } else {
+        next = next_after(b, rows, t, next);
+        let Some(i) = choose_place(t, progress) else {
             t = next;
-        }
+            continue;
+        };
+        let slots = progress[i].run(rows[i], t, next);
+        pen = pen.extend(plan, slots);
+        t = Slots(t.0 + slots.length.0);
     }
-    plan_record::put_run(pen, plan)
+    pen.put(plan)
+}
+
+// The records of the plan of rows in the first words, and how many there are. Every later word stays as it was. The first slot that is given
+// is the one after the header. What the jobs still need is made here, where it is used up.
+pub fn write_plan(f: Frame, rows: &[JobRow], plan: &mut [u32]) -> usize
+    requires rows { Rows (slots_in f) (names_of rows.now) (lengths_of rows.now) (needs_of rows.now)
+        × ((plan_words ≤ length plan.old) × (header_in f ≤ slots_in f)) }
+    requires few { Few rows.now }
+    ensures { let runs = row_plan (slots_in f) (header_in f) (names_of rows.now) (lengths_of rows.now) (needs_of rows.now) in
+        (result ≡ length runs) × ((result ≤ most_records) × (plan.new ≡ words_of runs ++ drop (record_words * result) plan.old)) }
+{
+    let mut all = [Progress::NONE; spec_model::PLACES];
+    let progress = &mut all[..rows.len()];
+    begin_rows(rows, progress);
+    write_runs(f, rows, progress, plan)
 }

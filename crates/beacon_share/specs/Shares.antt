@@ -34,6 +34,7 @@ use Rattle.table_queue.specs.declared.Queue.{Queue}
 use Rattle.beacon_share.specs.declared.Sharing.{Sharing}
 use Rattle.beacon_share.specs.declared.Shares.{Shares}
 use Rattle.table_queue.specs.Zips.{zip, zip_map, length_zip, zip_spare}
+use Rattle.table_queue.specs.Claims.{ranks_in, owed_in, limits_in, jobs_of}
 use Rattle.table_queue.specs.Queues.{Queued, no_rank, owed_below, pieces_of, takes_found, below_all}
 
 abbrev pub granted : (piece extra : ℕ) → Granted
@@ -97,12 +98,12 @@ module _ (t : Table) (w : Tidy t) {q : Queue} (k : Queued t q) where
   capacity_found : {c : ℕ} → c ≡ room_in t.frame - q.load → c ≡ capacity t.frame (held_of t)
   capacity_found e = e ∙ ap (λ n. room_in t.frame - n) k.load
 
-  pieces_found : {c : ℕ} {ps : List ℕ} → c ≡ capacity t.frame (held_of t) → ps ≡ pieces_of c q.ranks q.owed
+  pieces_found : {c : ℕ} {ps : List ℕ} → c ≡ capacity t.frame (held_of t) → ps ≡ pieces_of c (ranks_in q.claims) (owed_in q.claims)
       → ps ≡ pieces_in t
   pieces_found {c} e p = takes_found t w k c p ∙ ap (λ n. map (takes n t.entries) t.entries) e
 
   pub remains_found : {c o L : ℕ} → c ≡ capacity t.frame (held_of t)
-      → o ≡ owed_below no_rank q.ranks q.owed → L ≡ c - o → L ≡ remains t.frame (held_of t)
+      → o ≡ owed_below no_rank (ranks_in q.claims) (owed_in q.claims) → L ≡ c - o → L ≡ remains t.frame (held_of t)
   remains_found e p r =
       omega (arith, remains_places t w, p ∙ ap₂ (owed_below no_rank) k.ranks k.owed ∙ below_all t w)
 
@@ -146,10 +147,13 @@ grants_spare L W (suc n) (d ∷ ds) (p ∷ ps) h k = grants_spare L W n ds ps h 
 abbrev pub shares_by : Frame → (fractions : Bool) → Queue → Shares
 shares_by F fractions q =
     let E = room_in F - q.load in
-    let L = E - owed_below no_rank q.ranks q.owed in
-    let ps = pieces_of E q.ranks q.owed in
-    let ds = limits_among fractions q.jobs q.limits in
-    record { grants = grants_by L (weight_by q.jobs (rooms_by ds ps)) ds ps }
+    let ks = ranks_in q.claims in
+    let os = owed_in q.claims in
+    let ms = jobs_of q.claims in
+    let L = E - owed_below no_rank ks os in
+    let ps = pieces_of E ks os in
+    let ds = limits_among fractions ms (limits_in q.claims) in
+    record { grants = grants_by L (weight_by ms (rooms_by ds ps)) ds ps }
 
 named_held : (e : Entry) → name_in_range e.name ≡ true → is_held e ≡ true
 named_held e h = ap not (in_range_some e.name h)
@@ -235,14 +239,16 @@ module _ (fractions : Bool) (t : Table) (w : Tidy t) where
   shares_right {q} k =
       let es : List Entry = held_of t in
       let E : room_in t.frame - q.load ≡ capacity t.frame es = capacity_found t w k refl in
-      let ps : pieces_of (room_in t.frame - q.load) q.ranks q.owed ≡ pieces_in t = pieces_found t w k E refl in
-      let ls : limits_among fractions q.jobs q.limits ≡ map limit t.entries =
+      let ps : pieces_of (room_in t.frame - q.load) (ranks_in q.claims) (owed_in q.claims) ≡ pieces_in t = pieces_found t w k E refl in
+      let ls : limits_among fractions (jobs_of q.claims) (limits_in q.claims) ≡ map limit t.entries =
       ap₂ (limits_among fractions) k.jobs k.limits ∙ limits_among_lem fractions t w in
       let ds = ap₂ rooms_by ls ps ∙ rooms_right in
       let W = ap₂ weight_by k.jobs ds ∙ weight_right in
       let L = remains_found t w k E refl refl in
       ap (λ gs. record { grants = gs })
-      (ap₂ (λ l v. grants_by l v (limits_among fractions q.jobs q.limits) (pieces_of (room_in t.frame - q.load) q.ranks q.owed)) L W
+      (ap₂
+      (λ l v. grants_by l v (limits_among fractions (jobs_of q.claims) (limits_in q.claims))
+      (pieces_of (room_in t.frame - q.load) (ranks_in q.claims) (owed_in q.claims))) L W
       ∙ ap₂ (grants_by (remains t.frame es) (weight (among fractions) (step_b t.frame es) es)) ls ps
       ∙ grants_places (remains t.frame es) (weight (among fractions) (step_b t.frame es) es))
 

@@ -1,78 +1,112 @@
-// The document's number of each answer: document 01, "Where each refusal is checked". A call answers with an enum of crate spec_model; whoever shows the answer asks for its number. The window, the calls on
-// a lent table and the program answer with numbers, which have their names here.
+// The document's number of each answer: document 01, "Where each refusal is checked". A call answers with a value, or with a refusal, an
+// enum of crate spec_model; whoever shows the answer asks for its number. The program's own refusals have their numbers here by name.
 #![tactic(auto)]
 
-ghost use Rattle.std.specs.Prelude.{◌≡◌};
-ghost use Rattle.spec_model.specs.Answers.{offer_number};
-ghost use Rattle.spec_model.specs.Numbers.{open_number, held_number, beacon_number};
+ghost use Rattle.std.specs.Prelude.{◌≡◌, ◌≢◌, ℕ, eqb};
+ghost use Rattle.std.specs.Result.{is_ok};
+ghost use Rattle.spec_model.specs.Answers.{answered, offer_number};
+ghost use Rattle.spec_model.specs.Numbers.{open_number, held_number, beacon_number, window_number};
+ghost use Rattle.call_answers.specs.Refused.{open_refused, offer_refused, held_refused, beacon_refused, window_refused};
 
-use spec_model::{BeaconAnswer, HeldAnswer, OfferAnswer, OpenAnswer};
+use spec_model::{BeaconRefusal, HeldRefusal, OfferRefusal, OpenRefusal, WindowRefusal};
 
 // ---- numbers by name
 // A call that succeeds.
 pub const DONE: u32 = 0;
-
-// An opening.
-pub const UNITS_OUTSIDE: u32 = 1;
-
-pub const HEADER_OUTSIDE: u32 = 61;
-
-// A withdrawal and an enquiry.
-pub const NOT_HELD: u32 = 20;
-
-// A window: more records than the words lent have, slots in the wrong order, starts that do not strictly rise.
-pub const TOO_MANY_RECORDS: u32 = 40;
-
-pub const FROM_AFTER_UNTIL: u32 = 41;
-
-pub const STARTS_NOT_RISING: u32 = 42;
 
 // The program: a row of another form, and a call where there is no table.
 pub const OTHER_FORM: u32 = 50;
 
 pub const NO_TABLE: u32 = 51;
 
-// ---- the number of each
-pub fn open_number(answer: OpenAnswer) -> u32
-    ensures { result ≡ open_number answer }
-{
-    match answer {
-        OpenAnswer::Opened => DONE,
-        OpenAnswer::UnitsOutside => UNITS_OUTSIDE,
-        OpenAnswer::HeaderOutside => HEADER_OUTSIDE,
+// ---- the number of each refusal
+pub trait Refusal: Copy {
+    ghost number: { Self → ℕ };
+
+    fn number(self) -> u32
+        ensures { result ≡ number self };
+
+    // None is the number of a call that succeeds.
+    ghost refused: { (r : Self) → number r ≢ 0 };
+}
+
+impl Refusal for OpenRefusal {
+    ghost number = { open_number };
+
+    ghost refused = { open_refused };
+
+    fn number(self) -> u32 {
+        match self {
+            OpenRefusal::UnitsOutside => 1,
+            OpenRefusal::HeaderOutside => 61,
+        }
     }
 }
 
-pub fn offer_number(answer: OfferAnswer) -> u32
-    ensures { result ≡ offer_number answer }
-{
-    match answer {
-        OfferAnswer::Accepted => DONE,
-        OfferAnswer::StreamOutside => 10,
-        OfferAnswer::StreamHeld => 11,
-        OfferAnswer::KindUnknown => 12,
-        OfferAnswer::PeriodOutside => 13,
-        OfferAnswer::AmountsOutside => 14,
-        OfferAnswer::LifeOutside => 15,
-        OfferAnswer::TableFull => 16,
-        OfferAnswer::NoTime => 17,
+impl Refusal for OfferRefusal {
+    ghost number = { offer_number };
+
+    ghost refused = { offer_refused };
+
+    fn number(self) -> u32 {
+        match self {
+            OfferRefusal::StreamOutside => 10,
+            OfferRefusal::StreamHeld => 11,
+            OfferRefusal::KindUnknown => 12,
+            OfferRefusal::PeriodOutside => 13,
+            OfferRefusal::AmountsOutside => 14,
+            OfferRefusal::LifeOutside => 15,
+            OfferRefusal::TableFull => 16,
+            OfferRefusal::NoTime => 17,
+        }
     }
 }
 
-pub fn held_number(answer: HeldAnswer) -> u32
-    ensures { result ≡ held_number answer }
-{
-    match answer {
-        HeldAnswer::Held => DONE,
-        HeldAnswer::NotHeld => NOT_HELD,
+impl Refusal for HeldRefusal {
+    ghost number = { held_number };
+
+    ghost refused = { held_refused };
+
+    fn number(self) -> u32 {
+        match self {
+            HeldRefusal::NotHeld => 20,
+        }
     }
 }
 
-pub fn beacon_number(answer: BeaconAnswer) -> u32
-    ensures { result ≡ beacon_number answer }
+impl Refusal for BeaconRefusal {
+    ghost number = { beacon_number };
+
+    ghost refused = { beacon_refused };
+
+    fn number(self) -> u32 {
+        match self {
+            BeaconRefusal::PlanTooShort => 30,
+        }
+    }
+}
+
+impl Refusal for WindowRefusal {
+    ghost number = { window_number };
+
+    ghost refused = { window_refused };
+
+    fn number(self) -> u32 {
+        match self {
+            WindowRefusal::TooManyRecords => 40,
+            WindowRefusal::FromAfterUntil => 41,
+            WindowRefusal::StartsNotRising => 42,
+        }
+    }
+}
+
+// ---- and of any answer
+pub fn answer_number<T, R: Refusal>(answer: &Result<T, R>) -> u32
+    ensures number { result ≡ answered R.number answer.now }
+    ensures done { is_ok answer.now ≡ eqb result 0 }
 {
     match answer {
-        BeaconAnswer::Planned => DONE,
-        BeaconAnswer::PlanTooShort => 30,
+        Ok(_) => DONE,
+        Err(refusal) => refusal.number(),
     }
 }

@@ -19,7 +19,12 @@ use Rattle.law_slots.proofs.Events.{runs_idle}
 use Rattle.law_steps.proofs.Settled.{after_free}
 use Rattle.beacon_share.specs.declared.Shares.{Shares}
 use Rattle.table_queue.specs.Queues.{Used}
-use Rattle.beacon_share.specs.Shares.{shares_of}
+use Rattle.beacon_share.specs.Shares.{no_shares, shares_of}
+use Rattle.call_beacon.specs.declared.Planned.{Planned}
+
+-- no record, and no place in use
+abbrev pub nothing_planned : Planned
+nothing_planned = record { count = 0; used = 0; shares = no_shares }
 
 -- ---- every place: u is the table after t, where n places are in use and get the shares s; with none in use it is t itself
 pub record Moves (t : Table) (n : ℕ) (s : Shares) (u : Table) : Type 0 where

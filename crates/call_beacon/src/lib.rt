@@ -3,37 +3,37 @@
 #![tactic(auto)]
 
 ghost use Rattle.std.specs.Prelude.{◌≡◌};
+ghost use Rattle.std.specs.Result.{result_unwrap_or};
+ghost use Rattle.spec_model.specs.Answers.{answered};
 ghost use Rattle.spec_model.specs.Numbers.{beacon_number};
 ghost use Rattle.spec_rules.specs.Calls.{beacon};
 ghost use Rattle.spec_rules.specs.WellFormed.{WellFormed};
-ghost use Rattle.call_beacon.specs.Moves.{Moves};
+ghost use Rattle.call_beacon.specs.Moves.{Moves, nothing_planned};
 
 use beacon_share::Shares;
-use spec_model::{BeaconAnswer, Table};
+use spec_model::{BeaconRefusal, Table};
 
+// What an interval sends besides the plan, and leaves behind.
 #[derive(Clone, Copy)]
 pub struct Beaconing {
-    pub answer: BeaconAnswer,
     pub count: usize,
     pub table: Table,
 }
 
-// A beacon but for the table after it: what each place gets, and how many places are in use. None is where the table stays as it is.
+// A beacon but for the table after it: what each place gets, and how many places are in use. Where none is, the table stays as it is.
 #[derive(Clone, Copy)]
 pub struct Planned {
-    pub answer: BeaconAnswer,
     pub count: usize,
     pub used: usize,
     pub shares: Shares,
 }
 
 // No record is written, and the table stays.
-fn unplanned(answer: BeaconAnswer) -> Planned
-    ensures { (result.answer ≡ answer) × ((result.count ≡ 0) × (result.used ≡ 0)) }
+fn nothing_planned() -> Planned
+    ensures { result ≡ nothing_planned }
 {
     let shares = beacon_share::no_shares();
     Planned {
-        answer,
         count: 0,
         used: 0,
         shares,
@@ -42,18 +42,18 @@ fn unplanned(answer: BeaconAnswer) -> Planned
 
 // The plan stands in the first words, so many for each record; every later word stays as it was. Refused, every word does. Where nothing is held
 // there is nothing to plan.
-pub fn plan_interval(t: Table, plan: &mut [u32]) -> Planned
+pub fn plan_interval(t: Table, plan: &mut [u32]) -> Result<Planned, BeaconRefusal>
     requires { WellFormed t }
-    ensures { let b = beacon t plan.old in
-        (beacon_number result.answer ≡ b.answer) × ((result.count ≡ b.count) × ((plan.new ≡ b.words)
-        × Moves t result.used result.shares b.table)) }
+    ensures { let b = beacon t plan.old in let p = result_unwrap_or result nothing_planned in
+        (answered beacon_number result ≡ b.answer) × ((p.count ≡ b.count) × ((plan.new ≡ b.words)
+        × Moves t p.used p.shares b.table)) }
 {
     if plan.len() < spec_model::PLAN_WORDS {
-        return unplanned(BeaconAnswer::PlanTooShort);
+        return Err(BeaconRefusal::PlanTooShort);
     }
     let q = table_queue::queue_of(t);
     if q.used == 0 {
-        return unplanned(BeaconAnswer::Planned);
+        return Ok(nothing_planned());
     }
     let frame = t.frame;
     let mut shares = beacon_share::shares_of(frame, q, true);
@@ -61,35 +61,25 @@ pub fn plan_interval(t: Table, plan: &mut [u32]) -> Planned
         shares = beacon_extras::shares_after(t, q, shares);
     }
     let count = beacon_jobs::write_jobs(t, q, shares, plan);
-    Planned {
-        answer: BeaconAnswer::Planned,
+    Ok(Planned {
         count,
         used: q.used,
         shares,
-    }
+    })
 }
 
-// The plan as above, and the table an interval on.
-pub fn beacon(t: Table, plan: &mut [u32]) -> Beaconing
+// The plan as above, and the table an interval on. Refused, it stays as it is.
+pub fn beacon(t: Table, plan: &mut [u32]) -> Result<Beaconing, BeaconRefusal>
     requires { WellFormed t }
-    ensures { let b = beacon t plan.old in
-        (beacon_number result.answer ≡ b.answer) × ((result.count ≡ b.count) × ((result.table ≡ b.table) × (plan.new ≡ b.words))) }
+    ensures { let b = beacon t plan.old in let r = result_unwrap_or result (record { count = 0; table = t }) in
+        (answered beacon_number result ≡ b.answer) × ((r.count ≡ b.count) × ((r.table ≡ b.table) × (plan.new ≡ b.words))) }
 {
-    let p = plan_interval(t, plan);
-    let answer = p.answer;
+    let p = plan_interval(t, plan)?;
     let count = p.count;
     if p.used == 0 {
-        return Beaconing {
-            answer,
-            count,
-            table: t,
-        };
+        return Ok(Beaconing { count, table: t });
     }
     let shares = p.shares;
     let table = beacon_advance::advance(t, p.used, shares);
-    Beaconing {
-        answer,
-        count,
-        table,
-    }
+    Ok(Beaconing { count, table })
 }

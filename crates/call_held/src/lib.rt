@@ -1,77 +1,46 @@
 // Withdrawals and enquiries: document 01, "Where each refusal is checked", `withdraw` and `enquire`. Both go by the place of a name.
 #![tactic(auto)]
 
-ghost use Rattle.std.specs.Prelude.{cond, ◌≡◌, ltb};
+ghost use Rattle.std.specs.Prelude.{◌≡◌};
+ghost use Rattle.std.specs.Result.{result_unwrap_or};
+ghost use Rattle.spec_model.specs.Answers.{answered};
 ghost use Rattle.spec_model.specs.Entries.{free_entry};
+ghost use Rattle.spec_model.specs.Numbers.{held_number};
+ghost use Rattle.spec_model.specs.Tables.{no_place, put_in};
 ghost use Rattle.spec_rules.specs.Calls.{held_answer, withdrawn};
 ghost use Rattle.spec_rules.specs.Reading.{enquired};
 ghost use Rattle.spec_rules.specs.WellFormed.{WellFormed};
-ghost use Rattle.spec_model.specs.Numbers.{held_number};
-ghost use Rattle.spec_model.specs.Tables.{places, put_in};
 
-use spec_model::{Entry, HeldAnswer, Name, Table};
+use spec_model::{Entry, HeldRefusal, Name, Table};
 
 // ---- a withdrawal
-#[derive(Clone, Copy)]
-pub struct Withdrawal {
-    pub answer: HeldAnswer,
-    pub table: Table,
-}
-
-// No place, `spec_model::NO_PLACE`, is past the last.
-fn held_at(at: usize) -> HeldAnswer
-    ensures { held_number result ≡ cond (ltb at places) 0 20 }
-{
-    if at < spec_model::PLACES {
-        return HeldAnswer::Held;
-    }
-    HeldAnswer::NotHeld
-}
-
-// A withdrawal's answer, and the place that becomes free, which may be none.
-#[derive(Clone, Copy)]
-pub struct Released {
-    pub answer: HeldAnswer,
-    pub place: usize,
-}
-
-pub fn release(t: Table, name: Name) -> Released
+// The place that becomes free. Refused, there is none.
+pub fn release(t: Table, name: Name) -> Result<usize, HeldRefusal>
     requires { WellFormed t }
-    ensures { (held_number result.answer ≡ held_answer t name) × (put_in t result.place free_entry ≡ withdrawn t name) }
+    ensures { (answered held_number result ≡ held_answer t name)
+        × (put_in t (result_unwrap_or result no_place) free_entry ≡ withdrawn t name) }
 {
-    let place = table_places::place_of(t, name);
-    let answer = held_at(place);
-    Released { answer, place }
+    let place = table_places::place_of(&t.entries, name);
+    place.ok_or(HeldRefusal::NotHeld)
 }
 
-pub fn withdraw(t: Table, name: Name) -> Withdrawal
+// Refused, the table stays as it is.
+pub fn withdraw(t: Table, name: Name) -> Result<Table, HeldRefusal>
     requires { WellFormed t }
-    ensures { (held_number result.answer ≡ held_answer t name) × (result.table ≡ withdrawn t name) }
+    ensures { (answered held_number result ≡ held_answer t name) × (result_unwrap_or result t ≡ withdrawn t name) }
 {
-    let r = release(t, name);
-    let answer = r.answer;
+    let place = release(t, name)?;
     let free = spec_model::free_entry();
-    let table = table_places::put_in(t, r.place, free);
-    Withdrawal { answer, table }
+    Ok(table_places::put_in(t, place, free))
 }
 
 // ---- an enquiry
-#[derive(Clone, Copy)]
-pub struct Enquiry {
-    pub answer: HeldAnswer,
-    pub entry: Entry,
-}
-
-pub fn enquire(t: Table, name: Name) -> Enquiry
+pub fn enquire(t: Table, name: Name) -> Result<Entry, HeldRefusal>
     requires { WellFormed t }
-    ensures { (held_number result.answer ≡ held_answer t name) × (result.entry ≡ enquired t name) }
+    ensures { (answered held_number result ≡ held_answer t name) × (result_unwrap_or result free_entry ≡ enquired t name) }
 {
-    let found = table_places::place_of(t, name);
-    let answer = held_at(found);
-    if found < spec_model::PLACES {
-        let entry = t.entries[found];
-        return Enquiry { answer, entry };
+    match table_places::place_of(&t.entries, name) {
+        Some(place) => Ok(t.entries[place]),
+        None => Err(HeldRefusal::NotHeld),
     }
-    let entry = spec_model::free_entry();
-    Enquiry { answer, entry }
 }

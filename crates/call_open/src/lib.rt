@@ -2,22 +2,18 @@
 #![tactic(auto)]
 
 ghost use Rattle.std.specs.Prelude.{cond, ◌≡◌, eqb};
+ghost use Rattle.std.specs.Result.{result_unwrap_or};
+ghost use Rattle.spec_model.specs.Answers.{answered};
 ghost use Rattle.spec_model.specs.Numbers.{open_number};
 ghost use Rattle.spec_model.specs.Tables.{none_held, no_table};
 ghost use Rattle.spec_rules.specs.Settings.{open_answer, Succeeds, frame_of, opened};
 
-use spec_model::{Frame, OpenAnswer, Setting, Slots, Table};
+use spec_model::{Frame, OpenRefusal, Setting, Slots, Table};
 
 // The time units of an interval.
 const UNITS_LEAST: u32 = 1;
 
 const UNITS_LARGEST: u32 = 1000;
-
-#[derive(Clone, Copy)]
-pub struct Opening {
-    pub answer: OpenAnswer,
-    pub table: Table,
-}
 
 // No place is held.
 pub fn empty_table(frame: Frame) -> Table
@@ -42,19 +38,22 @@ pub fn no_table() -> Table
     empty_table(NO_FRAME)
 }
 
-pub fn open_answer(s: Setting) -> OpenAnswer
-    ensures { open_number result ≡ open_answer s }
+// Whether an opening succeeds, before there is a table.
+#[tactic(auto, unfolding(spec_rules::specs::Settings::open_answer, spec_model::specs::Requests::refusal))]
+pub fn open_answer(s: Setting) -> Result<(), OpenRefusal>
+    ensures { answered open_number result ≡ open_answer s }
 {
     if !base_numbers::is_within(UNITS_LEAST, UNITS_LARGEST, s.units) {
-        return OpenAnswer::UnitsOutside;
+        return Err(OpenRefusal::UnitsOutside);
     }
     if spec_model::UNIT_SLOTS * s.units <= s.header {
-        return OpenAnswer::HeaderOutside;
+        return Err(OpenRefusal::HeaderOutside);
     }
-    OpenAnswer::Opened
+    Ok(())
 }
 
 // What an interval is after an opening that succeeds.
+#[tactic(auto, unfolding(spec_rules::specs::Settings::frame_of))]
 fn frame_of(s: Setting) -> Frame
     requires { Succeeds s }
     ensures { result ≡ frame_of s }
@@ -66,6 +65,7 @@ fn frame_of(s: Setting) -> Frame
 }
 
 // The table of an opening that succeeds.
+#[tactic(auto, unfolding(spec_rules::specs::Settings::opened))]
 pub fn opened_table(s: Setting) -> Table
     requires { Succeeds s }
     ensures { result ≡ opened s }
@@ -73,15 +73,11 @@ pub fn opened_table(s: Setting) -> Table
     empty_table(frame_of(s))
 }
 
-// Refused, there is no table, and no call is to be made on what stands in its place.
-pub fn open(s: Setting) -> Opening
-    ensures { (open_number result.answer ≡ open_answer s) × (result.table ≡ cond (eqb (open_answer s) 0) (opened s) no_table) }
+// Refused, there is no table.
+pub fn open(s: Setting) -> Result<Table, OpenRefusal>
+    ensures { (answered open_number result ≡ open_answer s)
+        × (result_unwrap_or result no_table ≡ cond (eqb (open_answer s) 0) (opened s) no_table) }
 {
-    let answer = open_answer(s);
-    if call_answers::open_number(answer) != call_answers::DONE {
-        let table = no_table();
-        return Opening { answer, table };
-    }
-    let table = opened_table(s);
-    Opening { answer, table }
+    open_answer(s)?;
+    Ok(opened_table(s))
 }

@@ -11,9 +11,10 @@ ghost use Rattle.spec_rules.specs.Settings.{open_answer, opened};
 ghost use Rattle.spec_rules.specs.WellFormed.{WellFormed};
 ghost use Rattle.spec_model.specs.ByNumbers.{stream as named, setting, request};
 
-use spec_model::{Entry, Name, Request, Setting, Slots, Table};
+use call_answers::Refusal;
+use spec_model::{Entry, HeldRefusal, Name, Request, Setting, Slots, Table};
 
-// ---- what the calls give back
+// ---- what the calls give back: C has no Result, so the number of the answer stands beside what is given
 // What a beacon sends besides the plan: its answer and its record count.
 #[repr(C)]
 #[derive(Clone, Copy)]
@@ -36,12 +37,17 @@ pub extern "C" fn gelmush_beacon(table: &mut Table, plan: &mut [u32]) -> Sent
     ensures { let b = beacon table.old plan.old in
         (result.answer ≡ b.answer) × (result.count ≡ b.count) × (table.new ≡ b.table) × (plan.new ≡ b.words) }
 {
-    let b = call_beacon::beacon(*table, plan);
-    *table = b.table;
-    let answer = b.answer;
-    Sent {
-        answer: call_answers::beacon_number(answer),
-        count: b.count,
+    let sent = call_beacon::beacon(*table, plan);
+    let answer = call_answers::answer_number(&sent);
+    match sent {
+        Ok(b) => {
+            *table = b.table;
+            Sent {
+                answer,
+                count: b.count,
+            }
+        }
+        Err(_) => Sent { answer, count: 0 },
     }
 }
 
@@ -68,15 +74,12 @@ pub extern "C" fn gelmush_offer(
         max,
         life,
     };
-    let d = call_offer::decide(*table, q);
-    let place = d.place;
-    let entry = d.entry;
-    // A refused offer puts nothing in the table: it has no place there.
-    if place < spec_model::PLACES {
-        table.entries[place] = entry;
+    let decision = call_offer::decide(*table, q);
+    // A refused offer puts nothing in the table.
+    if let Ok(placed) = decision {
+        table.entries[placed.place] = placed.entry;
     }
-    let answer = d.answer;
-    call_answers::offer_number(answer)
+    call_answers::answer_number(&decision)
 }
 
 #[unsafe(no_mangle)]
@@ -85,13 +88,14 @@ pub extern "C" fn gelmush_withdraw(table: &mut Table, stream: u32) -> u32
     ensures { let t = table.old in let n = named stream in (result ≡ held_answer t n) × (table.new ≡ withdrawn t n) }
 {
     let name = Name { stream };
-    let at = table_places::place_in(table, name);
-    if at < spec_model::PLACES {
-        let free = spec_model::free_entry();
-        table.entries[at] = free;
-        return call_answers::DONE;
+    let place = table_places::place_of(&table.entries, name);
+    match place {
+        Some(at) => {
+            table.entries[at] = spec_model::free_entry();
+            call_answers::DONE
+        }
+        None => HeldRefusal::NotHeld.number(),
     }
-    call_answers::NOT_HELD
 }
 
 // Asks nothing of what lies in the table's place. Refused, it lies there still.
@@ -101,13 +105,11 @@ pub extern "C" fn gelmush_open(table: &mut Table, units: u32, header: u32) -> u3
         (result ≡ a) × (table.new ≡ cond (eqb a 0) (opened s) table.old) }
 {
     let s = Setting { units, header };
-    let answer = call_open::open_answer(s);
-    let number = call_answers::open_number(answer);
-    if number != call_answers::DONE {
-        return number;
+    let opening = call_open::open(s);
+    if let Ok(opened) = opening {
+        *table = opened;
     }
-    *table = call_open::opened_table(s);
-    number
+    call_answers::answer_number(&opening)
 }
 
 #[unsafe(no_mangle)]
@@ -116,18 +118,15 @@ pub extern "C" fn gelmush_enquire(table: &Table, stream: u32) -> Found
     ensures { let t = table.now in let n = named stream in (result.answer ≡ held_answer t n) × (result.entry ≡ enquired t n) }
 {
     let name = Name { stream };
-    let found = table_places::place_in(table, name);
-    if found < spec_model::PLACES {
-        let entry = table.entries[found];
-        return Found {
+    match table_places::place_of(&table.entries, name) {
+        Some(place) => Found {
             answer: call_answers::DONE,
-            entry,
-        };
-    }
-    let entry = spec_model::free_entry();
-    Found {
-        answer: call_answers::NOT_HELD,
-        entry,
+            entry: table.entries[place],
+        },
+        None => Found {
+            answer: HeldRefusal::NotHeld.number(),
+            entry: spec_model::free_entry(),
+        },
     }
 }
 
@@ -155,12 +154,14 @@ pub extern "C" fn gelmush_window(
         × (result.words ≡ length (window_part ws count from until))
         × (answer.new ≡ window_answer ws count from until) }
 {
-    let b = plan_window::bounds_of(plan, count, Slots(from), Slots(until));
-    *answer = b.answer;
+    let bounds = plan_window::bounds_of(plan, count, Slots(from), Slots(until));
+    *answer = call_answers::answer_number(&bounds);
+    let b = bounds.unwrap_or(plan_window::NO_RECORDS);
     let mut first = spec_model::RECORD_WORDS * b.first;
     // The window of all earlier slots is looked at only where it may be given while this one is refused.
     if until < from {
-        let earlier = plan_window::bounds_of(plan, count, Slots(0), Slots(from));
+        let bounds = plan_window::bounds_of(plan, count, Slots(0), Slots(from));
+        let earlier = bounds.unwrap_or(plan_window::NO_RECORDS);
         first = spec_model::RECORD_WORDS * earlier.end;
     }
     let words = spec_model::RECORD_WORDS * (b.end - b.first);

@@ -12,7 +12,7 @@ ghost use Rattle.spec_rules.specs.WellFormed.{Tidy};
 ghost use Rattle.table_queue.specs.Queues.{Used};
 ghost use Rattle.header_test.specs.Due.{Summed, PartsIn, Tells, added, due_at, most_due, EndsFit, Passes};
 
-use spec_model::{Entry, Frame, Slots, Table};
+use spec_model::{Entry, Frame, Kind, Slots, Table};
 
 // An array by the number of parts, which is 2 to 16.
 pub const PARTS_ROOM: usize = 17;
@@ -29,7 +29,7 @@ fn due_at(sums: &[u64; 17], k: u32, m: u32) -> u64
         let need = sums[i];
         if 0 < need {
             let jobs = k * (i as u32) / m;
-            due = due + (jobs as u64) * need;
+            due += (jobs as u64) * need;
         }
     }
     due
@@ -42,13 +42,7 @@ fn ends_fit(f: Frame, sums: &[u64; 17], m: u32) -> bool
 {
     let header = f.header.0 as u64;
     let period = (f.slots.0 / m) as u64;
-    for k in 1..m + 1 {
-        let due = due_at(sums, k, m);
-        if (k as u64) * period < due + header {
-            return false;
-        }
-    }
-    true
+    (1..m + 1).all(|k| due_at(sums, k, m) + header <= (k as u64) * period)
 }
 
 // Whether there is at the period ends of all streams. Where nobody has m parts, there are no such ends.
@@ -56,14 +50,7 @@ pub fn passes(f: Frame, sums: &[u64; 17]) -> bool
     requires { Summed sums.now }
     ensures { Tells result (Passes f sums.now) }
 {
-    for m in 2..PARTS_ROOM {
-        if 0 < sums[m] {
-            if !ends_fit(f, sums, m as u32) {
-                return false;
-            }
-        }
-    }
-    true
+    (2..PARTS_ROOM).all(|m| sums[m] == 0 || ends_fit(f, sums, m as u32))
 }
 
 // ---- the sums
@@ -72,7 +59,7 @@ pub fn add_need(sums: &mut [u64; 17], e: Entry, extra: Slots)
     requires { Summed sums.old × PartsIn e }
     ensures { sums.new ≡ added (e.min.0 + extra.0) e sums.old }
 {
-    if e.kind == 1 {
+    if let Some(Kind::Fraction) = e.kind() {
         let m = e.parts as usize;
         let need = (e.min.0 as u64) + (extra.0 as u64);
         sums[m] = sums[m] + need;

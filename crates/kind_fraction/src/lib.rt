@@ -2,10 +2,10 @@
 #![tactic(auto)]
 
 ghost use Rattle.std.specs.Prelude.{◌≡◌};
-ghost use Rattle.spec_model.specs.Answers.{offer_number};
+ghost use Rattle.spec_model.specs.Answers.{answered, offer_number};
 ghost use Rattle.spec_model.specs.Requests.{refusal, fraction_period, fraction_amounts, fraction_life, fraction_checks};
 
-use spec_model::{Intervals, OfferAnswer, Slots};
+use spec_model::{Intervals, OfferRefusal, Slots};
 
 // Kind 1: parts is m, and the period is the m-th part of the interval.
 #[derive(Clone, Copy)]
@@ -32,7 +32,7 @@ impl FractionStream {
     {
         let inside = base_numbers::is_within(Self::PARTS_LEAST, Self::PARTS_LARGEST, self.parts);
         let whole = base_numbers::is_multiple(interval.0, self.parts);
-        base_numbers::both(inside, whole)
+        inside && whole
     }
 
     // The largest amount is what a period has, B/m.
@@ -49,8 +49,8 @@ impl FractionStream {
         base_numbers::is_within(Self::LIFE_LEAST, Self::LIFE_LARGEST, self.life.0)
     }
 
-    pub fn check(self, interval: Slots) -> OfferAnswer
-        ensures { offer_number result ≡ refusal (fraction_checks
+    pub fn check(self, interval: Slots) -> Result<(), OfferRefusal>
+        ensures { answered offer_number result ≡ refusal (fraction_checks
             interval.0 self.parts self.min.0 self.max.0 self.life.0) }
     {
         let period = self.period_in_range(interval);

@@ -2,10 +2,10 @@
 #![tactic(auto)]
 
 ghost use Rattle.std.specs.Prelude.{◌≡◌};
-ghost use Rattle.spec_model.specs.Answers.{offer_number};
+ghost use Rattle.spec_model.specs.Answers.{answered, offer_number};
 ghost use Rattle.spec_model.specs.Requests.{refusal, transfer_period, transfer_amounts, transfer_life, transfer_checks};
 
-use spec_model::{Intervals, OfferAnswer, Slots};
+use spec_model::{Intervals, OfferRefusal, Slots};
 
 // Kind 3: an amount, once, before a deadline. The maximum is reserved.
 #[derive(Clone, Copy)]
@@ -40,7 +40,7 @@ impl Transfer {
     {
         let some = Self::AMOUNT_LEAST <= self.amount.0;
         let none = self.reserved.0 == Self::RESERVED;
-        base_numbers::both(some, none)
+        some && none
     }
 
     pub fn life_in_range(self) -> bool
@@ -49,8 +49,8 @@ impl Transfer {
         self.life.0 == self.deadline.0
     }
 
-    pub fn check(self) -> OfferAnswer
-        ensures { offer_number result ≡ refusal (transfer_checks
+    pub fn check(self) -> Result<(), OfferRefusal>
+        ensures { answered offer_number result ≡ refusal (transfer_checks
             self.deadline.0 self.amount.0 self.reserved.0 self.life.0) }
     {
         let period = self.period_in_range();

@@ -2,10 +2,10 @@
 #![tactic(auto)]
 
 ghost use Rattle.std.specs.Prelude.{◌≡◌};
-ghost use Rattle.spec_model.specs.Answers.{offer_number};
+ghost use Rattle.spec_model.specs.Answers.{answered, offer_number};
 ghost use Rattle.spec_model.specs.Requests.{refusal, whole_period, whole_amounts, whole_life, whole_checks};
 
-use spec_model::{Intervals, OfferAnswer, Slots};
+use spec_model::{Intervals, OfferRefusal, Slots};
 
 // Kind 2: so much in every period of so many intervals.
 #[derive(Clone, Copy)]
@@ -48,11 +48,11 @@ impl WholeStream {
     {
         let inside = base_numbers::is_within(Self::LIFE_LEAST, Self::LIFE_LARGEST, self.life.0);
         let whole = base_numbers::is_multiple(self.life.0, self.period.0);
-        base_numbers::both(inside, whole)
+        inside && whole
     }
 
-    pub fn check(self, interval: Slots) -> OfferAnswer
-        ensures { offer_number result ≡ refusal (whole_checks
+    pub fn check(self, interval: Slots) -> Result<(), OfferRefusal>
+        ensures { answered offer_number result ≡ refusal (whole_checks
             interval.0 self.period.0 self.min.0 self.max.0 self.life.0) }
     {
         let period = self.period_in_range();

@@ -24,13 +24,12 @@ use Rattle.law_ahead.specs.Ends.{due_in, Until}
 use Rattle.law_ahead.proofs.Ends.{turn_tidy, turn_misses, turn_same}
 use Rattle.ahead_serve.specs.Serving.{left_of, due_of, unpaid, Owing, Ranked}
 use Rattle.ahead_serve.specs.Laws.{unpaid_less, length_unpaid, length_left, ranked_less}
-use Rattle.ahead_figures.specs.Columns.{Columns}
+use Rattle.ahead_figures.specs.Columns.{Columns, owing}
 use Rattle.ahead_figures.specs.Figures.{longest, never}
 use Rattle.ahead_next.specs.Ends.{first_end}
 use Rattle.ahead_pass.specs.Passed.{Roomy, PassedEnds}
 use Rattle.law_figures.specs.Shows.{Shows}
 use Rattle.law_figures.proofs.Shows.{owed_spare, first_after, first_soon, first_until, none_left, some_left, load_shown, due_shown}
-use Rattle.law_figures.specs.Onward.{owing}
 use Rattle.law_figures.proofs.Onward.{ranked, roomy, shows_next}
 use Rattle.law_figures.specs.Looking.{ahead, Begins, Looking}
 

@@ -42,14 +42,13 @@ use Rattle.table_entry.specs.Amounts.{owed_to}
 use Rattle.table_queue.specs.Zips.{zip_at, length_zip}
 use Rattle.table_queue.specs.Queues.{no_rank, owed_below, piece_of}
 use Rattle.ahead_serve.specs.Serving.{left_of, unpaid, Apart, Ranked}
-use Rattle.ahead_figures.specs.Columns.{Columns, figures_at}
+use Rattle.ahead_figures.specs.Columns.{Columns, figures_at, owing, with_owed}
 use Rattle.ahead_figures.specs.Figures.{longest, never}
 use Rattle.ahead_pass.specs.Passed.{passed_end, PassedEnds, Roomy}
-use Rattle.law_figures.specs.Shown.{Shown, stays, with_owed}
+use Rattle.law_figures.specs.Shown.{Shown, stays}
 use Rattle.law_figures.proofs.Shown.{shown_next}
 use Rattle.law_figures.specs.Shows.{Shows}
 use Rattle.law_figures.proofs.Shows.{place, end_held, ends_spare, owed_spare, sum_as, now_or_later}
-use Rattle.law_figures.specs.Onward.{owing}
 
 module _ {now used : ℕ} {t : Table} {c : Columns} (s : Shows now used t c) (w : Tidy t) (l : now ≤ longest) where
   abbrev here : ℕ → Entry

@@ -26,9 +26,10 @@ use Rattle.law_ahead.specs.Leap.{event_in}
 use Rattle.law_ahead.proofs.Leap.{later_on}
 use Rattle.table_entry.specs.Amounts.{owed_to}
 use Rattle.ahead_figures.specs.Figures.{longest, never, end_of, begin_of, period_of, figures_of}
+use Rattle.ahead_figures.specs.Columns.{with_owed}
 use Rattle.ahead_figures.specs.declared.Figures.{Figures}
 use Rattle.ahead_pass.specs.Passed.{passed_end}
-use Rattle.law_figures.specs.Shown.{end_at, Shown, stays, with_owed}
+use Rattle.law_figures.specs.Shown.{end_at, Shown, stays}
 
 -- ---- where looking ahead begins
 not_held : {A : Type 0} → is_held free_entry ≡ true → A

@@ -1,4 +1,3 @@
 pub mod Shown
 pub mod Shows
-pub mod Onward
 pub mod Looking

@@ -31,15 +31,3 @@ pub record Shown (now : ℕ) (e : Entry) (f : Figures) : Type 0 where
 -- what is due at the end is paid
 abbrev pub stays : (at b : ℕ) → Entry → Figures → ℕ
 stays at b e f = cond (eqb f.end.0 at) 0 (owed_to e - b)
-
-abbrev pub with_owed : ℕ → Figures → Figures
-with_owed o f =
-    record {
-      rank = f.rank;
-      owed = record { 0 = o };
-      end = f.end;
-      life = f.life;
-      load = f.load;
-      begin = f.begin;
-      period = f.period;
-    }

@@ -1,6 +1,6 @@
 -- Names of requests: the test `same` decides equality, `lower` is a total order, and a name in range has a number that ranks it. No other
 -- file opens these definitions. Assumes nothing.
-use Rattle.std.specs.Prelude.{◌≡◌, refl, ◌⊎◌, ◌≢◌, true, false, not, ◌≤◌, ◌<◌}
+use Rattle.std.specs.Prelude.{◌≡◌, refl, ◌⊎◌, ◌≢◌, true, false, not, ◌≤◌, ◌<◌, eqb}
 use Rattle.std.proofs.Math.Path.{ap}
 use Rattle.std.proofs.Common.{inl, inr, zero-le, arith}
 use Rattle.std.proofs.Math.Decide.{ℕ_discrete, dec_le}
@@ -33,6 +33,11 @@ same_false a b h e = eqb-false a.stream b.stream h (ap (λ (n : Name). n.stream)
 pub same_ne : (a b : Name) → a ≢ b → same a b ≡ false
 unfolding same
 same_ne a b h = ne_eqb a.stream b.stream (λ e. h (ap (λ s. record { stream = s }) e))
+
+-- what `==` of the code says
+pub same_streams : (a b : Name) → eqb a.stream b.stream ≡ same a b
+unfolding same
+same_streams a b = refl
 
 -- ---- lower
 pub lower_not_self : (n : Name) → lower n n ≢ true

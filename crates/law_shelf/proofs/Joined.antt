@@ -20,7 +20,7 @@ use Rattle.spec_rules.specs.Settings.{open_answer, opened}
 use Rattle.spec_rules.specs.Records.{plan_words}
 use Rattle.spec_rules.specs.Calls.{offered, withdrawn, plan_of, advanced, Beacon as Sent}
 use Rattle.spec_shelf.specs.Printed.{header_row, plain_row}
-use Rattle.spec_shelf.specs.declared.State.{State}
+use Rattle.spec_shelf.specs.Meaning.{State}
 use Rattle.spec_shelf.specs.Meaning.{first_state, with_table, state_after, rows_for, printed, output_of}
 use Rattle.law_model.specs.Records.{records_back}
 use Rattle.law_rows.specs.Plans.{planned}

@@ -14,7 +14,7 @@ use Rattle.spec_rules.specs.Slots.{Run}
 use Rattle.spec_rules.specs.Records.{plan_words}
 use Rattle.spec_rules.specs.Settings.{open_answer, Succeeds, opened}
 use Rattle.spec_shelf.specs.Printed.{header_row, plain_row, stream_row, slot_row_of}
-use Rattle.spec_shelf.specs.declared.State.{State}
+use Rattle.spec_shelf.specs.Meaning.{State}
 use Rattle.spec_shelf.specs.Meaning.{first_state, with_table, row_verb, output_of}
 use Rattle.shelf_state.specs.Cutting.{first_shelf}
 use Rattle.shelf_state.specs.Whole.{state_run, served}

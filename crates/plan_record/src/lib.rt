@@ -2,12 +2,12 @@
 // which. And the pen, which writes runs as records: slots of one job, one after the other, are one. Document 01, "One beacon", step E.
 #![tactic(auto)]
 
-ghost use Rattle.std.specs.Prelude.{◌≡◌, [], ◌∷◌, ◌+◌, ◌*◌, ◌≤◌, length, drop};
+ghost use Rattle.std.specs.Prelude.{◌≡◌, [], ◌∷◌, ◌+◌, ◌*◌, ◌≤◌, Some, length, drop};
 ghost use Rattle.spec_rules.specs.Records.{record_words, record_at};
 ghost use Rattle.law_model.specs.Frames.{most_slots};
 ghost use Rattle.plan_record.specs.Recorded.{run_of, recorded};
 ghost use Rattle.plan_record.specs.Starts.{start_at};
-ghost use Rattle.plan_record.specs.Pens.{blank, named, open_run, grows, closed, extended};
+ghost use Rattle.plan_record.specs.Pens.{blank, owner, open_run, begun, end_of, grows, closed, extended};
 
 use spec_model::{Name, Slots};
 
@@ -29,11 +29,27 @@ pub struct Record {
     pub length: Slots,
 }
 
-// How many records are written, and the run that may still grow: none where its length is 0.
-#[derive(Clone, Copy)]
-pub struct Pen {
-    pub count: usize,
-    pub run: Record,
+impl Record {
+    // The slots that follow are of its job, and the first of them is the one after its last.
+    #[tactic(auto, using(law_model::specs::Names::same_streams), unfolding(crate::specs::Pens::grows))]
+    fn grows(self, slots: Record) -> bool
+        requires { end_of (Some self) ≤ slots.start.0 }
+        ensures { result ≡ grows (Some self) (owner slots) slots.start.0 }
+    {
+        slots.name == self.name
+            && slots.job == self.job
+            && slots.start.0 == self.start.0 + self.length.0
+    }
+
+    // The run that slots begin: none where there are none.
+    fn begun(self) -> Option<Record>
+        ensures { result ≡ begun self }
+    {
+        if self.length.0 == 0 {
+            return None;
+        }
+        Some(self)
+    }
 }
 
 // The n-th record of a plan; every other word stays as it was.
@@ -74,71 +90,55 @@ pub fn start_of(plan: &[u32], n: usize) -> Slots
     r.start
 }
 
-// The run that may still grow is written; how many records there are then.
-pub fn put_run(pen: Pen, plan: &mut [u32]) -> usize
-    requires { record_words * (pen.count + 1) ≤ length plan.old }
-    ensures { (result ≡ pen.count + length (open_run pen))
-        × (plan.new ≡ recorded pen.count (open_run pen) plan.old) }
-{
-    let count = pen.count;
-    let run = pen.run;
-    if run.length.0 == 0 {
-        return count;
-    }
-    write_record(plan, count, run);
-    count + 1
+// How many records are written, and the run that may still grow. A run has slots: `Record::begun` gives none where there are none.
+#[derive(Clone, Copy)]
+pub struct Pen {
+    pub count: usize,
+    pub run: Option<Record>,
 }
 
-// The run goes on in slot t, where that is the job's.
-fn run_grows(run: Record, name: Name, job: u32, t: Slots) -> bool
-    requires { run.start.0 + run.length.0 ≤ t.0 }
-    ensures { result ≡ grows run (named name job) t.0 }
-{
-    if !spec_model::same(name, run.name) {
-        return false;
+impl Pen {
+    // No record yet, and no run.
+    pub fn blank() -> Pen
+        ensures { result ≡ blank }
+    {
+        Pen {
+            count: 0,
+            run: None,
+        }
     }
-    if job != run.job {
-        return false;
-    }
-    t.0 == run.start.0 + run.length.0
-}
 
-// n slots from t on go to a job: the run grows, or it is written and another begins.
-pub fn extend_run(pen: Pen, plan: &mut [u32], name: Name, job: u32, t: Slots, n: Slots) -> Pen
-    requires count_in_bounds { (record_words * (pen.count + 1) ≤ length plan.old) × (pen.run.start.0 + pen.run.length.0 ≤ t.0) }
-    requires n_bound { t.0 + n.0 ≤ most_slots }
-    ensures { (result ≡ extended pen (named name job) t.0 n.0)
-        × (plan.new ≡ recorded pen.count (closed pen (named name job) t.0) plan.old) }
-{
-    let mut run = pen.run;
-    if run_grows(run, name, job, t) {
-        let count = pen.count;
-        let longer = run.length.0 + n.0;
-        run.length.0 = longer;
-        return Pen { count, run };
+    // The run that may still grow is written; how many records there are then.
+    pub fn put(self, plan: &mut [u32]) -> usize
+        requires { record_words * (self.count + 1) ≤ length plan.old }
+        ensures { (result ≡ self.count + length (open_run self))
+            × (plan.new ≡ recorded self.count (open_run self) plan.old) }
+    {
+        let Some(run) = self.run else {
+            return self.count;
+        };
+        write_record(plan, self.count, run);
+        self.count + 1
     }
-    let count = put_run(pen, plan);
-    let next = Record {
-        name,
-        job,
-        start: t,
-        length: n,
-    };
-    Pen { count, run: next }
-}
 
-// No record yet, and no run.
-pub fn blank_pen() -> Pen
-    ensures { result ≡ blank }
-{
-    let free = spec_model::free_entry();
-    let name = free.name;
-    let none = Slots(0);
-    let run = Record {
-        name,
-        job: 0,
-        start: none,
-        length: none,
-    };
-    Pen { count: 0, run }
+    // Slots of one job: the run grows, or it is written and another begins. Of no slots there is no run.
+    pub fn extend(self, plan: &mut [u32], slots: Record) -> Pen
+        requires room { (record_words * (self.count + 1) ≤ length plan.old) × (end_of self.run ≤ slots.start.0) }
+        requires slots { slots.start.0 + slots.length.0 ≤ most_slots }
+        ensures { (result ≡ extended self (owner slots) slots.start.0 slots.length.0)
+            × (plan.new ≡ recorded self.count (closed self (owner slots) slots.start.0) plan.old) }
+    {
+        if let Some(run) = self.run {
+            if run.grows(slots) {
+                let length = Slots(run.length.0 + slots.length.0);
+                return Pen {
+                    count: self.count,
+                    run: Some(Record { length, ..run }),
+                };
+            }
+        }
+        let count = self.put(plan);
+        let run = slots.begun();
+        Pen { count, run }
+    }
 }

@@ -1,6 +1,5 @@
 -- Where a window's part begins and ends, counted in records, and the laws that its callers cite. Assumes nothing.
 use Rattle.std.specs.Prelude.{◌≡◌, refl, ◌≢◌, cond, List, ℕ, ◌*◌, ◌-◌, ◌≤◌, eqb, length, take, drop}
-use Rattle.std.proofs.Math.Path.{ap}
 use Rattle.std.proofs.Math.Decide.{ℕ_discrete}
 use Rattle.std.proofs.Common.{arith}
 use borrow.Author.Tests.{eq-eqb, ne_eqb}
@@ -11,23 +10,25 @@ use Rattle.plan_window.specs.Laws.{window_ends, window_part_lem, window_none}
 
 unfoldable pub bounds_of : (ws : List ℕ) (n from until : ℕ) → Bounds
 bounds_of ws n from until =
-    let a = window_answer ws n from until in
-    let place : ℕ → ℕ = λ x. cond (eqb a 0) (before x (starts_of n ws)) 0 in
-    record { answer = a; first = place from; end = place until }
+    let place : ℕ → ℕ = λ x. cond (eqb (window_answer ws n from until) 0) (before x (starts_of n ws)) 0 in
+    record { first = place from; end = place until }
+
+abbrev pub no_records : Bounds
+no_records = record { first = 0; end = 0 }
 
 module _ (ws : List ℕ) (n from until : ℕ) where
   abbrev bounds : Bounds
   bounds = bounds_of ws n from until
 
-  -- as the code finds them, a being the answer
-  pub bounds_none : {a : ℕ} → a ≡ window_answer ws n from until → a ≢ 0 → record { answer = a; first = 0; end = 0 } ≡ bounds
+  -- as the code finds them
+  pub bounds_none : {a : ℕ} → a ≡ window_answer ws n from until → a ≢ 0 → no_records ≡ bounds
   unfolding bounds_of
-  bounds_none e z = rw (e, ne_eqb _ _ (rw e at z))
+  bounds_none e z = rw (ne_eqb _ _ (rw e at z))
 
-  pub bounds_found : {a b c : ℕ} → a ≡ window_answer ws n from until → a ≡ 0
-      → b ≡ before from (starts_of n ws) → c ≡ before until (starts_of n ws) → record { answer = a; first = b; end = c } ≡ bounds
+  pub bounds_found : {b c : ℕ} → 0 ≡ window_answer ws n from until → b ≡ before from (starts_of n ws) → c ≡ before until (starts_of n ws)
+      → record { first = b; end = c } ≡ bounds
   unfolding bounds_of
-  bounds_found e z p q = rw (p, q, e, eq-eqb _ _ (rw e at z))
+  bounds_found e p q = rw (p, q, ← e)
 
   -- what holds of the ends of an accepted window and of no record holds of them
   bounds_either : (P : ℕ → ℕ → Type 0)
@@ -43,10 +44,6 @@ module _ (ws : List ℕ) (n from until : ℕ) where
 
   -- of what the code finds
   module _ {b : Bounds} (is : b ≡ bounds) where
-    pub bounds_answer : b.answer ≡ window_answer ws n from until
-    unfolding bounds_of
-    bounds_answer = ap (λ x. x.answer) is
-
     pub bounds_within : (b.first ≤ b.end) × (record_words * b.end ≤ length ws)
     bounds_within =
         rw is

@@ -113,6 +113,9 @@ before_most x (a ∷ ss) = go (ltb a x) (before_most x ss)
 before_within : (x n : ℕ) (ws : List ℕ) → before x (starts_of n ws) ≤ n
 before_within x n ws = rw starts_length at (before_most x (starts_of n ws))
 
+pub passed_within : (n : ℕ) (ws : List ℕ) (i x : ℕ) → Passed n ws i x → i ≤ n
+passed_within n ws i x w = omega (arith, w, before_within x n ws)
+
 -- ---- the answer, from the tests as the code makes them
 module _ (ws : List ℕ) (n from until : ℕ) where
   pub answers_40 : length ws < record_words * n → 40 ≡ window_answer ws n from until

@@ -1,20 +1,10 @@
 -- Reading an input byte by byte: what is known of the row that has begun. A row of more than 64 bytes has another form whatever its
 -- bytes are, so that no more than 64 are kept. Document 01, "Reading, lending, printing". Assumes nothing.
-use Rattle.std.specs.Prelude.{ℕ, suc, Bool, true, false, cond, ◌&&◌, List, [], ◌∷◌, ltb, eqb, set, replicate}
+use Rattle.std.specs.Prelude.{ℕ, suc, Bool, true, false, cond, ◌&&◌, List, [], ◌∷◌, ltb, eqb, set, replicate, Some, None}
 use Rattle.row_cut.specs.declared.Line.{Line}
 use Rattle.row_cut.specs.declared.Reader.{Reader}
 use Rattle.row_cut.specs.declared.Cut.{Cut}
 use Rattle.spec_text.specs.Rows.{lf, cr, row_most}
-
--- a line, a reader and a cut by their parts
-abbrev pub line_in : List ℕ → ℕ → Line
-line_in bs n = record { bytes = bs; len = n }
-
-abbrev pub reader_in : List ℕ → ℕ → Bool → Reader
-reader_in bs n h = record { line = line_in bs n; held = h }
-
-abbrev pub cut_at : Reader → ℕ → Bool → Cut
-cut_at r n e = record { reader = r; taken = n; ended = e }
 
 -- a row that has no byte yet
 unfoldable pub no_line : Line
@@ -51,12 +41,12 @@ ends_row r b = r.held && eqb b lf
 unfoldable pub after_byte : Reader → ℕ → Reader
 after_byte r b = cond (eqb b cr) (record { line = unheld r; held = true }) (record { line = with_byte (unheld r) b; held = false })
 
--- up to the first byte that ends the row, or through all the bytes: how many were taken, and whether the row has ended
+-- up to the first byte that ends the row, or through all the bytes: how many were taken, the row that has ended, and what stands after them
 unfoldable pub cut_from : ℕ → Reader → List ℕ → Cut
-cut_from n r [] = record { reader = r; taken = n; ended = false }
+cut_from n r [] = record { reader = r; taken = n; row = None }
 cut_from n r (b ∷ bs) =
     let more = cut_from (suc n) (after_byte r b) bs in
-    cond (ends_row r b) (record { reader = r; taken = suc n; ended = true }) more
+    cond (ends_row r b) (record { reader = at_start; taken = suc n; row = Some r.line }) more
 
 -- ---- the rows that a reader finds in some bytes, and the reader after them
 unfoldable pub lines_in : Reader → List ℕ → List Line

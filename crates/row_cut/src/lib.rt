@@ -2,7 +2,7 @@
 #![tactic(auto)]
 
 ghost use Rattle.std.specs.Prelude.{◌≡◌};
-ghost use Rattle.row_cut.specs.Lines.{line_in, reader_in, cut_at, with_byte, at_start, unheld, cut_from};
+ghost use Rattle.row_cut.specs.Lines.{with_byte, at_start, unheld, cut_from};
 
 use spec_text::ROW_MOST;
 
@@ -20,14 +20,15 @@ pub struct Reader {
     pub held: bool,
 }
 
-// How many bytes were taken, and whether the last of them ended the row.
+// How many bytes were taken, the row that the last of them ended, where one did, and what stands after them.
 #[derive(Clone, Copy)]
 pub struct Cut {
     pub reader: Reader,
     pub taken: usize,
-    pub ended: bool,
+    pub row: Option<Line>,
 }
 
+#[tactic(auto, unfolding(crate::specs::Lines::at_start, crate::specs::Lines::no_line))]
 pub fn at_start() -> Reader
     ensures { result ≡ at_start }
 {
@@ -38,64 +39,57 @@ pub fn at_start() -> Reader
     Reader { line, held: false }
 }
 
-// One byte more of a row: it is kept while there is room. The length after it, 65 standing for every length above 64.
-fn keep_byte(bytes: &mut [u8; ROW_MOST], len: usize, b: u8) -> usize
-    ensures { line_in bytes.new result ≡ with_byte (line_in bytes.old len) b }
-{
-    if len < ROW_MOST {
-        bytes[len] = b;
-        return len + 1;
+impl Line {
+    // One byte more: it is kept while there is room.
+    #[tactic(auto, unfolding(crate::specs::Lines::with_byte))]
+    fn push(&mut self, byte: u8)
+        ensures { self.new ≡ with_byte self.old byte }
+    {
+        if self.len < ROW_MOST {
+            self.bytes[self.len] = byte;
+            self.len += 1;
+        } else {
+            self.len = ROW_MOST + 1;
+        }
     }
-    ROW_MOST + 1
 }
 
 // At the end of the input a CR that was kept back belongs to the row.
+#[tactic(auto, unfolding(crate::specs::Lines::unheld))]
 pub fn unheld(r: Reader) -> Line
     ensures { result ≡ unheld r }
 {
-    let line = r.line;
+    let mut last = r.line;
     if r.held {
-        let mut bytes = line.bytes;
-        let len = keep_byte(&mut bytes, line.len, 13);
-        return Line { bytes, len };
+        last.push(b'\r');
     }
-    line
-}
-
-fn cut_of(bytes: [u8; ROW_MOST], len: usize, held: bool, taken: usize, ended: bool) -> Cut
-    ensures { result ≡ cut_at (reader_in bytes len held) taken ended }
-{
-    let line = Line { bytes, len };
-    let reader = Reader { line, held };
-    Cut {
-        reader,
-        taken,
-        ended,
-    }
+    last
 }
 
 // Reads up to the end of the row, or through the whole chunk where the row goes on after it.
 pub fn cut_row(r: Reader, chunk: &[u8]) -> Cut
     ensures { result ≡ cut_from 0 r chunk.now }
 {
-    let line = r.line;
-    let mut bytes = line.bytes;
-    let mut len = line.len;
-    let mut held = r.held;
-    let mut i: usize = 0;
-    while i < chunk.len() {
-        let b = chunk[i];
-        i += 1;
-        if held {
-            if b == 10 {
-                return cut_of(bytes, len, held, i, true);
+    let mut reader = r;
+    for (i, byte) in chunk.iter().enumerate() {
+        if reader.held {
+            if *byte == b'\n' {
+                return Cut {
+                    reader: at_start(),
+                    taken: i + 1,
+                    row: Some(reader.line),
+                };
             }
-            len = keep_byte(&mut bytes, len, 13);
+            reader.line.push(b'\r');
         }
-        held = b == 13;
-        if b != 13 {
-            len = keep_byte(&mut bytes, len, b);
+        reader.held = *byte == b'\r';
+        if !reader.held {
+            reader.line.push(*byte);
         }
     }
-    cut_of(bytes, len, held, i, false)
+    Cut {
+        reader,
+        taken: chunk.len(),
+        row: None,
+    }
 }

@@ -1,7 +1,7 @@
 // The fields of a row as byte strings and as numbers. Document 01, "Reading, lending, printing".
 #![tactic(auto)]
 
-ghost use Rattle.std.specs.Prelude.{◌≡◌};
+ghost use Rattle.std.specs.Prelude.{◌≡◌, ◌≤◌, length};
 ghost use Rattle.spec_lists.specs.Lists.{same_list};
 ghost use Rattle.spec_text.specs.declared.Field.TheVariants.{Needed};
 ghost use Rattle.row_fields.specs.FieldLaws.{to_comma, fields_after};
@@ -9,27 +9,7 @@ ghost use Rattle.row_fields.specs.FieldReads.{field_read, fields_read};
 
 use spec_text::{FIELDS, Field};
 
-// A field as a number: 0 where it has another form.
-#[derive(Clone, Copy)]
-struct Number {
-    good: bool,
-    value: u32,
-}
-
-// The fields after the verb as numbers: zeros where one has another form.
-#[derive(Clone, Copy)]
-pub struct Numbers {
-    pub good: bool,
-    pub values: [u32; FIELDS],
-}
-
-const DIGIT_ZERO: u32 = 48;
-
-const DIGIT_NINE: u32 = 57;
-
 const DIGITS_MOST: usize = 10;
-
-const NUMBER_MOST: u64 = 4294967295;
 
 // Whether some bytes are those of a byte string, no more and no fewer: the library's comparison, as an equation.
 pub fn matches(bytes: &[u8], string: &[u8]) -> bool
@@ -40,98 +20,55 @@ pub fn matches(bytes: &[u8], string: &[u8]) -> bool
 
 // Where the first comma stands, or the text's length.
 pub fn first_comma(text: &[u8]) -> usize
-    ensures { result ≡ to_comma text.now }
+    ensures value { result ≡ to_comma text.now }
+    ensures inside { result ≤ length text.now }
 {
-    let mut i = 0;
-    while i < text.len() {
-        if text[i] == b',' {
-            return i;
-        }
-        i += 1;
-    }
-    i
+    text.iter()
+        .position(|byte| *byte == b',')
+        .unwrap_or(text.len())
 }
 
-// A value past 32 bits is refused at its first digit too many, so that no step wraps.
-fn read_number(field: &[u8]) -> Number
+// 1 to 10 digits, whose value fits 32 bits.
+fn read_number(field: &[u8]) -> Option<u32>
     ensures { result ≡ field_read Needed field.now }
 {
-    let none = Number {
-        good: false,
-        value: 0,
-    };
-    if field.len() < 1 {
-        return none;
+    if !(1..=DIGITS_MOST).contains(&field.len()) {
+        return None;
     }
-    if DIGITS_MOST < field.len() {
-        return none;
-    }
-    let mut value: u64 = 0;
-    for i in 0..field.len() {
-        let digit = field[i] as u32;
-        if !base_numbers::is_within(DIGIT_ZERO, DIGIT_NINE, digit) {
-            return none;
+    let mut value: u32 = 0;
+    for byte in field {
+        if !byte.is_ascii_digit() {
+            return None;
         }
-        value = 10 * value + (digit - DIGIT_ZERO) as u64;
-        if NUMBER_MOST < value {
-            return none;
-        }
+        let digit = u32::from(*byte - b'0');
+        value = value.checked_mul(10)?.checked_add(digit)?;
     }
-    Number {
-        good: true,
-        value: value as u32,
-    }
+    Some(value)
 }
 
 // An empty field has no number of its own: it counts as the one that its form gives, or as 0.
-fn read_field(field: &[u8], asked: Field) -> Number
+fn read_field(field: &[u8], asked: Field) -> Option<u32>
     ensures { result ≡ field_read asked field.now }
 {
     match asked {
         Field::Needed => read_number(field),
-        Field::MayBeEmpty(otherwise) => {
-            if field.len() == 0 {
-                return Number {
-                    good: true,
-                    value: otherwise,
-                };
-            }
-            read_number(field)
-        }
-        Field::Empty => Number {
-            good: field.len() == 0,
-            value: 0,
-        },
+        Field::MayBeEmpty(otherwise) if field.is_empty() => Some(otherwise),
+        Field::MayBeEmpty(_) => read_number(field),
+        Field::Empty => field.is_empty().then_some(0),
     }
 }
 
 // The text is a comma and a field, as often as the form has fields.
-pub fn read_fields(text: &[u8], form: [Field; FIELDS]) -> Numbers
+pub fn read_fields(text: &[u8], form: [Field; FIELDS]) -> Option<[u32; FIELDS]>
     ensures { result ≡ fields_read form (fields_after text.now) }
 {
-    let none = Numbers {
-        good: false,
-        values: [0; FIELDS],
-    };
-    let mut values = [0u32; FIELDS];
-    let mut at = 0;
-    for i in 0..FIELDS {
-        if text.len() <= at {
-            return none;
-        }
-        let from = at + 1;
-        let size = first_comma(&text[from..]);
-        let end = from + size;
-        let asked = form[i];
-        let field = read_field(&text[from..end], asked);
-        if !field.good {
-            return none;
-        }
-        values[i] = field.value;
-        at = end;
+    let mut values = [0; FIELDS];
+    let mut rest = text;
+    for (i, asked) in form.iter().enumerate() {
+        let (_, after) = rest.split_first()?;
+        let size = first_comma(after);
+        values[i] = read_field(&after[..size], *asked)?;
+        rest = &after[size..];
     }
-    if at < text.len() {
-        return none;
-    }
-    Numbers { good: true, values }
+    rest.is_empty().then_some(values)
 }

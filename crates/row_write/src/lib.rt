@@ -1,5 +1,6 @@
 // Bytes, numbers and fields in lent memory. Each function writes at a place and answers the place after what it wrote; every other byte
-// stays as it was. The caller lends room.
+// stays as it was. The caller lends room. Memory and place go from call to call as two arguments: a struct of both is proved as well, and
+// costs the program 2 percent more on a school's day, since each call then reads and stores the place in memory.
 #![tactic(auto)]
 
 ghost use Rattle.std.specs.Prelude.{◌≡◌, ◌∷◌, ◌+◌, ◌≤◌, length};

@@ -1,13 +1,12 @@
 -- What stands between two rows of a chunk, and what the next row makes of it. Assumes nothing.
-use Rattle.std.proofs.Common.{◌≡◌, List, ℕ, ◌+◌, ◌-◌, ◌≤◌, ◌<◌, true, false, length, subst, sym, arith}
+use Rattle.std.proofs.Common.{◌≡◌, List, ℕ, ◌+◌, ◌-◌, ◌≤◌, ◌<◌, Some, None, length, subst, sym, arith}
 use Rattle.std.proofs.Math.ListN.{take}
-use Rattle.row_cut.specs.declared.Reader.{Reader}
+use Rattle.row_cut.specs.declared.Line.{Line}
 use Rattle.row_cut.specs.declared.Cut.{Cut}
-use Rattle.row_cut.specs.Lines.{at_start}
 use Rattle.law_rows.specs.Ready.{ready_after}
 use Rattle.law_rows.specs.Sizes.{rows_most}
 use Rattle.spec_shelf.specs.declared.Command.{Command}
-use Rattle.spec_shelf.specs.declared.State.{State}
+use Rattle.spec_shelf.specs.Meaning.{State}
 use Rattle.spec_shelf.specs.Printed.{written}
 use Rattle.spec_shelf.specs.Meaning.{state_after, plan_after, rows_for}
 use Rattle.spec_shelf.specs.Room.{answer_most, Ready}
@@ -34,7 +33,7 @@ module _ {s cur : Shelf} {chunk plan₀ out₀ plan out : List ℕ} {at taken ne
   less = omega (arith, some)
 
   -- the row goes on after the chunk
-  pub goes_on : cut.ended ≡ false → Turn s chunk plan₀ out₀ at (taken + cut.taken) (shelf_of cut.reader cur.state) next plan out
+  pub goes_on : cut.row ≡ None → Turn s chunk plan₀ out₀ at (taken + cut.taken) (shelf_of cut.reader cur.state) next plan out
   goes_on z =
       record {
         done = done_open cur chunk taken e h.done z;
@@ -44,17 +43,17 @@ module _ {s cur : Shelf} {chunk plan₀ out₀ plan out : List ℕ} {at taken ne
       }
 
   -- the row has ended, and its call is answered: what the next turn begins with, by what the answer says
-  pub answered : {c : Command} {r : Reader} {t : State} {words bytes : List ℕ} {end : ℕ} → next + answer_most ≤ length out₀
-      → cut.ended ≡ true → c ≡ command_in cut.reader.line → r ≡ at_start
+  pub answered : {l : Line} {c : Command} {t : State} {words bytes : List ℕ} {end : ℕ} → next + answer_most ≤ length out₀
+      → cut.row ≡ Some l → c ≡ command_in l
       → (let rows = rows_for cur.state c in
       (t ≡ state_after cur.state c) × ((end ≡ next + length rows)
       × ((bytes ≡ written out next rows) × (words ≡ plan_after cur.state c plan))))
-      → Turn s chunk plan₀ out₀ at (taken + cut.taken) (shelf_of r t) end words bytes
-  answered {c} spare z k anew a =
+      → Turn s chunk plan₀ out₀ at (taken + cut.taken) (shelf_of cut.reader t) end words bytes
+  answered {c = c} spare z k a =
       let place = a.1.0 in
       let most = rows_most cur.state c h.formed in
       record {
-        done = done_row cur chunk taken e h.done z k anew a;
+        done = done_row cur chunk taken e h.done z k a;
         formed = subst Ready (sym a.0) (ready_after cur.state c h.formed);
         inside = some.0;
         room = omega arith;

@@ -3,39 +3,56 @@
 #![tactic(auto)]
 
 ghost use Rattle.std.specs.Prelude.{◌≡◌, ◌+◌, ◌≤◌, length, take};
-ghost use Rattle.spec_shelf.specs.Printed.{written};
 ghost use Rattle.spec_rules.specs.Records.{plan_words};
-ghost use Rattle.spec_shelf.specs.Room.{answer_most, state_of, Ready};
+ghost use Rattle.spec_shelf.specs.Meaning.{state_after, plan_after, rows_for};
+ghost use Rattle.spec_shelf.specs.Room.{answer_most, Ready};
+ghost use Rattle.spec_shelf.specs.Printed.{written};
 ghost use Rattle.shelf_state.specs.Cutting.{command_in};
 ghost use Rattle.shelf_state.specs.Whole.{chunk_rows, chunk_plan, shelf_after};
-ghost use Rattle.shelf_state.specs.Parts.{served_to};
 
-use row_cut::{Line, Reader};
+use row_cut::Line;
 use shelf_state::{Served, Shelf};
 use spec_model::Table;
-use spec_shelf::{Command, State};
+use spec_shelf::Command;
+use spec_text::ROW_MOST;
 
+#[tactic(auto, unfolding(shelf_state::specs::Cutting::command_in))]
 fn command_in(line: Line) -> Command
     ensures { result ≡ command_in line }
 {
-    let len = line.len;
-    if len <= spec_text::ROW_MOST {
-        let bytes = line.bytes;
-        return row_command::command_of(&bytes[..len]);
+    if ROW_MOST < line.len {
+        return Command::OtherForm;
     }
-    Command::OtherForm
+    row_command::command_of(&line.bytes[..line.len])
 }
 
-fn served_to(reader: Reader, ready: bool, table: Table, taken: usize, at: usize) -> Served
-    ensures { result ≡ served_to reader (state_of ready table) taken at }
+// A row's call, and the rows of its answer.
+#[tactic(auto, unfolding(spec_shelf::specs::Meaning::state_after, spec_shelf::specs::Meaning::plan_after, spec_shelf::specs::Meaning::rows_for))]
+fn answer(
+    command: Command,
+    table: &mut Option<Table>,
+    plan: &mut [u32],
+    out: &mut [u8],
+    at: usize,
+) -> usize
+    requires ready { Ready table.old }
+    requires plan_words_in_bounds { plan_words ≤ length plan.old }
+    requires room { at + answer_most ≤ length out.old }
+    ensures state { table.new ≡ state_after table.old command }
+    ensures rows { let bs = rows_for table.old command in
+        (result ≡ at + length bs) × (out.new ≡ written out.old at bs) }
+    ensures memory { plan.new ≡ plan_after table.old command plan.old }
 {
-    let state = State { ready, table };
-    let shelf = Shelf { reader, state };
-    Served { shelf, taken, at }
+    match command {
+        Command::Open(s) => shelf_open::answer_open(table, s, out, at),
+        Command::Offer(q) => shelf_offer::answer_offer(table, q, out, at),
+        Command::Withdraw(n) => shelf_withdraw::answer_withdraw(table, n, out, at),
+        Command::Beacon => shelf_beacon::answer_beacon(table, plan, out, at),
+        Command::OtherForm => row_print::plain_row(out, at, b"row", call_answers::OTHER_FORM),
+    }
 }
 
-// Row after row, until the chunk is used up or another answer might not fit. The table stays in its place: a call reads it, and what it
-// says is put there.
+// Row after row, until the chunk is used up or another answer might not fit. The table stays in its place, and a call changes it there.
 pub fn serve_rows(s: Shelf, chunk: &[u8], plan: &mut [u32], out: &mut [u8], at: usize) -> Served
     requires ready { Ready s.state }
     requires plan_words_in_bounds { plan_words ≤ length plan.old }
@@ -48,59 +65,25 @@ pub fn serve_rows(s: Shelf, chunk: &[u8], plan: &mut [u32], out: &mut [u8], at: 
         (result.taken ≤ n) × ((result.at ≤ room) × (result.at + answer_most ≤ room → result.taken ≡ n)) }
 {
     let mut reader = s.reader;
-    let state = s.state;
-    let mut ready = state.ready;
-    let mut table = state.table;
+    let mut table = s.state;
     let mut taken: usize = 0;
     let mut next = at;
     let last = out.len() - spec_shelf::ANSWER_MOST;
     while taken < chunk.len() && next <= last {
-        let c = row_cut::cut_row(reader, &chunk[taken..]);
-        let r = c.reader;
-        reader = r;
-        taken += c.taken;
-        if c.ended {
-            reader = row_cut::at_start();
-            match command_in(r.line) {
-                Command::Open(setting) => {
-                    let o = shelf_open::answer_open(setting, out, next);
-                    next = o.at;
-                    if o.succeeded {
-                        ready = true;
-                        table = call_open::opened_table(setting);
-                    }
-                }
-                Command::Offer(q) => {
-                    let p = shelf_offer::answer_offer(ready, table, q, out, next);
-                    next = p.at;
-                    let place = p.place;
-                    if place < spec_model::PLACES {
-                        let e = p.entry;
-                        table.entries[place] = e;
-                    }
-                }
-                Command::Withdraw(name) => {
-                    let p = shelf_withdraw::answer_withdraw(ready, table, name, out, next);
-                    next = p.at;
-                    let place = p.place;
-                    if place < spec_model::PLACES {
-                        let e = p.entry;
-                        table.entries[place] = e;
-                    }
-                }
-                Command::Beacon => {
-                    let b = shelf_beacon::answer_beacon(ready, table, plan, out, next);
-                    next = b.at;
-                    if 0 < b.used {
-                        let shares = b.shares;
-                        table = beacon_advance::advance(table, b.used, shares);
-                    }
-                }
-                Command::OtherForm => {
-                    next = row_print::plain_row(out, next, b"row", call_answers::OTHER_FORM);
-                }
-            }
+        let cut = row_cut::cut_row(reader, &chunk[taken..]);
+        reader = cut.reader;
+        taken += cut.taken;
+        if let Some(line) = cut.row {
+            next = answer(command_in(line), &mut table, plan, out, next);
         }
     }
-    served_to(reader, ready, table, taken, next)
+    let shelf = Shelf {
+        reader,
+        state: table,
+    };
+    Served {
+        shelf,
+        taken,
+        at: next,
+    }
 }

@@ -21,9 +21,6 @@ command_in l = cond (leb l.len row_most) (command_of (text_of l)) OtherForm
 abbrev pub cut_of : Shelf → List ℕ → Cut
 cut_of s chunk = cut_from 0 s.reader chunk
 
-abbrev pub command_at : Shelf → List ℕ → Command
-command_at s chunk = command_in (cut_of s chunk).reader.line
-
 -- at the end of the input: the last row, where it has a byte
 unfoldable pub last_rows : Shelf → List ℕ
 last_rows s = let l = unheld s.reader in cond (eqb l.len 0) [] (rows_for s.state (command_in l))

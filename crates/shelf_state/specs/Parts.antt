@@ -1,30 +1,27 @@
 -- A chunk is served row by row: what stands after the first of its bytes. Assumes nothing.
-use Rattle.std.specs.Prelude.{◌≡◌, refl, true, false, List, [], ◌++◌, ℕ, zero, suc, ◌+◌, ◌-◌, ◌≤◌, ◌<◌, length, drop}
+use Rattle.std.specs.Prelude.{◌≡◌, refl, Some, None, List, [], ◌++◌, ℕ, zero, suc, ◌+◌, ◌-◌, ◌≤◌, ◌<◌, length, drop}
 use Rattle.std.proofs.Math.Path.{sym}
 use Rattle.std.proofs.Common.{subst, ap, ap₂, ◌∙◌, append-nil, arith, length-drop, take-add}
 use Rattle.std.proofs.Math.ListN.{take}
 use Rattle.std.proofs.Math.Seq.{take_all}
+use Rattle.row_cut.specs.declared.Line.{Line}
 use Rattle.row_cut.specs.declared.Reader.{Reader}
 use Rattle.row_cut.specs.declared.Cut.{Cut}
-use Rattle.row_cut.specs.Lines.{at_start, lines_in, reader_after}
+use Rattle.row_cut.specs.Lines.{lines_in, reader_after}
 use Rattle.row_cut.specs.Cuts.{row_ended, row_open}
 use Rattle.spec_shelf.specs.declared.Command.{Command}
 use Rattle.row_print.specs.PrintedLaws.{Wrote, wrote, wrote_then, written_none}
 use Rattle.spec_shelf.specs.Printed.{written}
-use Rattle.spec_shelf.specs.declared.State.{State}
+use Rattle.spec_shelf.specs.Meaning.{State}
 use Rattle.shelf_state.specs.declared.Shelf.{Shelf}
-use Rattle.shelf_state.specs.declared.Served.{Served}
 use Rattle.spec_shelf.specs.Meaning.{state_after, plan_after, rows_for, printed}
 use Rattle.spec_shelf.specs.Room.{answer_most}
-use Rattle.shelf_state.specs.Cutting.{command_in, cut_of, command_at}
+use Rattle.shelf_state.specs.Cutting.{command_in, cut_of}
 use Rattle.shelf_state.specs.Sizes.{cut_taken}
 use Rattle.shelf_state.specs.Whole.{state_run, plan_run, chunk_rows, chunk_plan, shelf_after, rows_append, after_both, plan_both}
 
 abbrev pub shelf_of : Reader → State → Shelf
 shelf_of r s = record { reader = r; state = s }
-
-abbrev pub served_to : Reader → State → ℕ → ℕ → Served
-served_to r s n at = record { shelf = shelf_of r s; taken = n; at = at }
 
 -- the bytes p are served: the shelf after them, their rows in lent memory from a place on, and the plan's memory
 pub record Done (s : Shelf) (p plan out : List ℕ) (at : ℕ) (after : Shelf) (next : ℕ) (words bytes : List ℕ) : Type 0 where
@@ -53,22 +50,22 @@ module _ (s : Shelf) (chunk : List ℕ) where
   cut_bytes = take (cut_of s chunk).taken chunk
 
   -- the row has ended: its call is answered, and the next row begins
-  pub row_answered : {plan out words bytes : List ℕ} {at next : ℕ} {t : State} → (cut_of s chunk).ended ≡ true
-      → let c = command_at s chunk in let rows = rows_for s.state c in
+  pub row_answered : {l : Line} {plan out words bytes : List ℕ} {at next : ℕ} {t : State} → (cut_of s chunk).row ≡ Some l
+      → let c = command_in l in let rows = rows_for s.state c in
       (t ≡ state_after s.state c) × ((next ≡ at + length rows) × ((bytes ≡ written out at rows) × (words ≡ plan_after s.state c plan)))
-      → Done s cut_bytes plan out at (shelf_of at_start t) next words bytes
+      → Done s cut_bytes plan out at (shelf_of (cut_of s chunk).reader t) next words bytes
   unfolding shelf_after chunk_rows chunk_plan state_run plan_run printed
   row_answered e (a, (n, (b, w))) =
       let x = row_ended 0 s.reader chunk e in
       let k : (cut_of s chunk).taken ≡ x.k = (let h = x.taken in omega arith) in
       record {
-        shelf = rw (k, x.only, x.anew, a) refl;
+        shelf = rw (k, x.only, x.anew, x.after, a) refl;
         rows = rw (k, x.only, append-nil) (wrote (n, b));
         memory = rw (k, x.only) w;
       }
 
   -- it goes on after the chunk
-  pub row_goes_on : {plan out : List ℕ} {at : ℕ} → (cut_of s chunk).ended ≡ false
+  pub row_goes_on : {plan out : List ℕ} {at : ℕ} → (cut_of s chunk).row ≡ None
       → Done s cut_bytes plan out at (shelf_of (cut_of s chunk).reader s.state) at plan out
   unfolding shelf_after chunk_rows chunk_plan state_run plan_run printed
   row_goes_on {plan} {out} {at} e =
@@ -115,24 +112,17 @@ module _ (cur : Shelf) (chunk : List ℕ) (taken : ℕ) {cut : Cut} (e : cut ≡
         subst (λ p. Done s p plan out at after end words₂ bytes₂) (sym q) (done_then d f)
 
     -- the row goes on after the chunk
-    pub done_open : cut.ended ≡ false
+    pub done_open : cut.row ≡ None
         → Done s (take (taken + cut.taken) chunk) plan out at (shelf_of cut.reader cur.state) next words bytes
-    done_open z =
-        let left = left_of chunk taken in
-        let f = row_goes_on cur left (ap (λ (c : Cut). c.ended) (sym e) ∙ z) in
-        done_cut
-        (subst (λ (c : Cut). Done cur (cut_bytes cur left) words bytes next (shelf_of c.reader cur.state) next words bytes) (sym e) f)
+    done_open z = done_cut (rw e (row_goes_on cur (left_of chunk taken) (rw e at z)))
 
     -- the row has ended, and its call is answered
-    pub done_row : {c : Command} {r : Reader} {t : State} {words₂ bytes₂ : List ℕ} {end : ℕ} → cut.ended ≡ true
-        → c ≡ command_in cut.reader.line → r ≡ at_start
+    pub done_row : {l : Line} {c : Command} {t : State} {words₂ bytes₂ : List ℕ} {end : ℕ} → cut.row ≡ Some l → c ≡ command_in l
         → let rows = rows_for cur.state c in
         (t ≡ state_after cur.state c) × ((end ≡ next + length rows)
         × ((bytes₂ ≡ written bytes next rows) × (words₂ ≡ plan_after cur.state c words)))
-        → Done s (take (taken + cut.taken) chunk) plan out at (shelf_of r t) end words₂ bytes₂
-    done_row {c} z k anew a =
-        let same : c ≡ command_at cur (left_of chunk taken) = k ∙ ap (λ (x : Cut). command_in x.reader.line) e in
-        rw anew (done_cut (row_answered cur (left_of chunk taken) (ap (λ (x : Cut). x.ended) (sym e) ∙ z) (rw same at a)))
+        → Done s (take (taken + cut.taken) chunk) plan out at (shelf_of cut.reader t) end words₂ bytes₂
+    done_row z k a = done_cut (rw e (row_answered cur (left_of chunk taken) (rw e at z) (rw k at a)))
 
 -- ---- a part of a chunk takes a byte where its first answer has room
 pub part_some : (s : Shelf) (chunk : List ℕ) (n at : ℕ) {next room : ℕ} → 0 < length chunk → at + answer_most ≤ room

@@ -13,7 +13,7 @@ use Rattle.spec_shelf.specs.Commands.{command_of}
 use Rattle.spec_shelf.specs.declared.Command.{Command}
 use Rattle.spec_shelf.specs.declared.Command.TheVariants.{OtherForm}
 use Rattle.spec_shelf.specs.Printed.{header_row}
-use Rattle.spec_shelf.specs.declared.State.{State}
+use Rattle.spec_shelf.specs.Meaning.{State}
 use Rattle.shelf_state.specs.declared.Shelf.{Shelf}
 use Rattle.spec_shelf.specs.Meaning.{first_state, state_after, plan_after, rows_for, printed, output_of}
 use Rattle.shelf_state.specs.Cutting.{first_shelf, command_in, last_rows}

@@ -6,16 +6,16 @@ ghost use Rattle.spec_shelf.specs.Room.{Ready};
 ghost use Rattle.shelf_state.specs.Cutting.{first_shelf};
 
 use row_cut::Reader;
-use spec_shelf::State;
+use spec_model::Table;
 
-// Between two chunks: the row that has begun, and the state.
+// Between two chunks: the row that has begun, and the table, where an opening has succeeded.
 #[derive(Clone, Copy)]
 pub struct Shelf {
     pub reader: Reader,
-    pub state: State,
+    pub state: Option<Table>,
 }
 
-// How many bytes of the chunk are done with, and the place after the rows that were printed.
+// How many bytes of the chunk are done with, the shelf after them, and the place after the rows that were printed.
 #[derive(Clone, Copy)]
 pub struct Served {
     pub shelf: Shelf,
@@ -23,15 +23,14 @@ pub struct Served {
     pub at: usize,
 }
 
+#[tactic(auto, unfolding(crate::specs::Cutting::first_shelf, spec_shelf::specs::Meaning::first_state))]
 pub fn first_shelf() -> Shelf
     ensures is { result ≡ first_shelf }
     ensures formed { Ready result.state }
 {
-    let table = call_open::no_table();
     let reader = row_cut::at_start();
-    let state = State {
-        ready: false,
-        table,
-    };
-    Shelf { reader, state }
+    Shelf {
+        reader,
+        state: None,
+    }
 }

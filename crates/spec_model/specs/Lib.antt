@@ -2,6 +2,7 @@ pub mod Frames
 pub mod Names
 pub mod Requests
 pub mod Entries
+pub mod Kinds
 pub mod Answers
 pub mod Numbers
 pub mod ByNumbers

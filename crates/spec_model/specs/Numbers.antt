@@ -1,24 +1,29 @@
--- The numbers of what the calls answer. Document 01, "Where each refusal is checked"; document 02, No. 1. Assumes nothing.
+-- The numbers of what the calls are refused for; a call that succeeds answers 0. Document 01, "Where each refusal is checked"; document
+-- 02, No. 1. Assumes nothing.
 use Rattle.std.specs.Prelude.{ℕ}
-use Rattle.spec_model.specs.declared.OpenAnswer.{OpenAnswer}
-use Rattle.spec_model.specs.declared.OpenAnswer.TheVariants.{Opened, UnitsOutside, HeaderOutside}
-use Rattle.spec_model.specs.declared.HeldAnswer.{HeldAnswer}
-use Rattle.spec_model.specs.declared.HeldAnswer.TheVariants.{Held, NotHeld}
-use Rattle.spec_model.specs.declared.BeaconAnswer.{BeaconAnswer}
-use Rattle.spec_model.specs.declared.BeaconAnswer.TheVariants.{Planned, PlanTooShort}
+use Rattle.spec_model.specs.declared.OpenRefusal.{OpenRefusal}
+use Rattle.spec_model.specs.declared.OpenRefusal.TheVariants.{UnitsOutside, HeaderOutside}
+use Rattle.spec_model.specs.declared.HeldRefusal.{HeldRefusal}
+use Rattle.spec_model.specs.declared.HeldRefusal.TheVariants.{NotHeld}
+use Rattle.spec_model.specs.declared.BeaconRefusal.{BeaconRefusal}
+use Rattle.spec_model.specs.declared.BeaconRefusal.TheVariants.{PlanTooShort}
+use Rattle.spec_model.specs.declared.WindowRefusal.{WindowRefusal}
+use Rattle.spec_model.specs.declared.WindowRefusal.TheVariants.{TooManyRecords, FromAfterUntil, StartsNotRising}
 
-abbrev pub open_number : OpenAnswer → ℕ
-open_number Opened = 0
+abbrev pub open_number : OpenRefusal → ℕ
 open_number UnitsOutside = 1
 open_number HeaderOutside = 61
 
-abbrev pub held_number : HeldAnswer → ℕ
-held_number Held = 0
+abbrev pub held_number : HeldRefusal → ℕ
 held_number NotHeld = 20
 
-abbrev pub beacon_number : BeaconAnswer → ℕ
-beacon_number Planned = 0
+abbrev pub beacon_number : BeaconRefusal → ℕ
 beacon_number PlanTooShort = 30
+
+abbrev pub window_number : WindowRefusal → ℕ
+window_number TooManyRecords = 40
+window_number FromAfterUntil = 41
+window_number StartsNotRising = 42
 
 -- the program's own: a row of another form, and a call where there is no table
 abbrev pub other_form_number : ℕ

@@ -3,11 +3,15 @@
 #![tactic(auto)]
 
 ghost use Rattle.std.specs.Prelude.{◌≡◌, ◌≤◌};
-ghost use Rattle.spec_model.specs.Answers.{offer_number};
+ghost use Rattle.spec_model.specs.Answers.{answered, offer_number};
 ghost use Rattle.spec_model.specs.Entries.{free_entry};
 ghost use Rattle.spec_model.specs.Frames.{room_in};
-ghost use Rattle.spec_model.specs.Names.{same, is_nobody, name_in_range, name_rank, name_top};
+ghost use Rattle.spec_model.specs.Names.{is_nobody, name_in_range, name_rank, name_top};
 ghost use Rattle.spec_model.specs.Requests.{refusal, in_order, range_checks};
+
+mod kind;
+
+pub use kind::{Kind, UnknownKind};
 
 // Counts of slots and counts of beacon intervals are different units: no sum takes one of each.
 #[repr(C)]
@@ -49,15 +53,16 @@ pub struct Frame {
     pub header: Slots,
 }
 
+#[tactic(auto, unfolding(crate::specs::Frames::room_in))]
 pub fn room_in(f: Frame) -> Slots
     ensures { result.0 ≡ room_in f }
 {
-    Slots(base_numbers::less(f.slots.0, f.header.0))
+    Slots(f.slots.0.saturating_sub(f.header.0))
 }
 
-// ---- the name of a request, told apart and ordered by the functions here alone
+// ---- the name of a request, told apart by `==` and ordered by the function here alone
 #[repr(C)]
-#[derive(Clone, Copy)]
+#[derive(Clone, Copy, PartialEq, Eq)]
 pub struct Name {
     pub stream: u32,
 }
@@ -67,27 +72,23 @@ impl Name {
 
     pub const STREAM_LARGEST: u32 = 65535;
 
+    #[tactic(auto, unfolding(crate::specs::Names::name_in_range))]
     pub fn in_range(self) -> bool
         ensures { result ≡ name_in_range self }
     {
         base_numbers::is_within(Self::STREAM_LEAST, Self::STREAM_LARGEST, self.stream)
     }
-}
 
-pub fn same(a: Name, b: Name) -> bool
-    ensures { result ≡ same a b }
-{
-    a.stream == b.stream
-}
-
-// The name of a free place.
-pub fn is_nobody(n: Name) -> bool
-    ensures { result ≡ is_nobody n }
-{
-    n.stream == 0
+    // The name of a free place.
+    pub fn is_nobody(self) -> bool
+        ensures { result ≡ is_nobody self }
+    {
+        self.stream == 0
+    }
 }
 
 // The lower of two names in range has the lower number; of any name it leaves room in 64 bits.
+#[tactic(auto, unfolding(crate::specs::Names::name_rank))]
 pub fn name_rank(name: Name) -> u64
     ensures { (result ≡ name_rank name) × (result ≤ name_top) }
 {
@@ -97,11 +98,10 @@ pub fn name_rank(name: Name) -> u64
 // Room for that number of a name in range.
 pub const NAME_ROOM: u64 = 65536;
 
-// ---- answers
-// What an offer answers.
-#[derive(Clone, Copy)]
-pub enum OfferAnswer {
-    Accepted,
+// ---- refusals
+// What an offer is refused for. Of several the first is answered, in the order here.
+#[derive(Clone, Copy, PartialEq, Eq, Debug)]
+pub enum OfferRefusal {
     StreamOutside,
     StreamHeld,
     KindUnknown,
@@ -112,24 +112,30 @@ pub enum OfferAnswer {
     NoTime,
 }
 
-// What the other calls answer.
-#[derive(Clone, Copy)]
-pub enum OpenAnswer {
-    Opened,
+// What the other calls are refused for.
+#[derive(Clone, Copy, PartialEq, Eq, Debug)]
+pub enum OpenRefusal {
     UnitsOutside,
     HeaderOutside,
 }
 
-#[derive(Clone, Copy)]
-pub enum HeldAnswer {
-    Held,
+// A withdrawal and an enquiry.
+#[derive(Clone, Copy, PartialEq, Eq, Debug)]
+pub enum HeldRefusal {
     NotHeld,
 }
 
-#[derive(Clone, Copy)]
-pub enum BeaconAnswer {
-    Planned,
+#[derive(Clone, Copy, PartialEq, Eq, Debug)]
+pub enum BeaconRefusal {
     PlanTooShort,
+}
+
+// A window: more records than the words lent have, slots in the wrong order, starts that do not strictly rise.
+#[derive(Clone, Copy, PartialEq, Eq, Debug)]
+pub enum WindowRefusal {
+    TooManyRecords,
+    FromAfterUntil,
+    StartsNotRising,
 }
 
 // An offer's six fields as they came: any numbers.
@@ -150,29 +156,24 @@ pub fn amounts_in_order(lowest: u32, min: Slots, max: Slots, largest: u64) -> bo
 {
     let least = min.0;
     let most = max.0;
-    if least < lowest {
-        return false;
-    }
-    if most < least {
-        return false;
-    }
-    (most as u64) <= largest
+    lowest <= least && least <= most && (most as u64) <= largest
 }
 
 // The first of three ranges that a field is outside of.
-pub fn first_outside(period: bool, amounts: bool, life: bool) -> OfferAnswer
-    ensures { offer_number result ≡ refusal (range_checks period amounts life) }
+#[tactic(auto, unfolding(crate::specs::Requests::refusal))]
+pub fn first_outside(period: bool, amounts: bool, life: bool) -> Result<(), OfferRefusal>
+    ensures { answered offer_number result ≡ refusal (range_checks period amounts life) }
 {
     if !period {
-        return OfferAnswer::PeriodOutside;
+        return Err(OfferRefusal::PeriodOutside);
     }
     if !amounts {
-        return OfferAnswer::AmountsOutside;
+        return Err(OfferRefusal::AmountsOutside);
     }
     if !life {
-        return OfferAnswer::LifeOutside;
+        return Err(OfferRefusal::LifeOutside);
     }
-    OfferAnswer::Accepted
+    Ok(())
 }
 
 // ---- the table

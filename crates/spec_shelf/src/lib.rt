@@ -1,7 +1,7 @@
-// What the program's rows say: the call that a row asks for, and the table between two rows. What they mean is in specs/.
+// What the program's rows say: the call that a row asks for. What they mean is in specs/.
 #![tactic(auto)]
 
-use spec_model::{Name, Request, Setting, Table};
+use spec_model::{Name, Request, Setting};
 
 // The most bytes of a record's row, the bytes kept for the row of a call, and the most bytes of an answer: that row, and those of the
 // longest plan.
@@ -19,11 +19,4 @@ pub enum Command {
     Withdraw(Name),
     Beacon,
     OtherForm,
-}
-
-// The table, where an opening has succeeded.
-#[derive(Clone, Copy)]
-pub struct State {
-    pub ready: bool,
-    pub table: Table,
 }

@@ -10,49 +10,44 @@ ghost use Rattle.spec_rules.specs.Slots.{job_length};
 ghost use Rattle.law_steps.specs.Ranks.{kind_room};
 ghost use Rattle.table_entry.specs.Amounts.{owed_to, limit_of};
 
-use spec_model::{Entry, Frame, Intervals, Name, Slots};
+use spec_model::{Entry, Frame, Intervals, Kind, Name, Slots};
 
 // ---- the jobs of an entry in an interval: m for kind 1, one piece for the others
 pub fn job_count(e: Entry) -> u32
     ensures { result ≡ job_count e }
 {
-    let kind = e.kind;
-    if kind == 1 {
-        return e.parts;
+    match e.kind() {
+        Some(Kind::Fraction) => e.parts,
+        _ => 1,
     }
-    1
 }
 
 pub fn job_length(f: Frame, e: Entry) -> Slots
     ensures { result.0 ≡ job_length f e }
 {
-    let kind = e.kind;
-    if kind == 1 {
-        return Slots(base_numbers::part_of(f.slots.0, e.parts));
+    match e.kind() {
+        Some(Kind::Fraction) => Slots(base_numbers::part_of(f.slots.0, e.parts)),
+        _ => f.slots,
     }
-    f.slots
 }
 
 // ---- A. capacity
 // What an entry takes of every interval: m times its minimum for kind 1.
+#[tactic(auto, using(law_model::specs::Loads::load_of_fraction, law_model::specs::Loads::load_of_none))]
 pub fn load_of(e: Entry) -> u64
     ensures { result ≡ load_of e }
 {
-    let kind = e.kind;
-    if kind != 1 {
-        return 0;
+    match e.kind() {
+        Some(Kind::Fraction) => (e.parts as u64) * (e.min.0 as u64),
+        _ => 0,
     }
-    let parts = e.parts as u64;
-    let least = e.min.0 as u64;
-    parts * least
 }
 
 // ---- B. kinds 2 and 3 take what they are owed
 pub fn is_piece(e: Entry) -> bool
     ensures { result ≡ is_piece e }
 {
-    let kind = e.kind;
-    kind == 2 || kind == 3
+    matches!(e.kind(), Some(Kind::Whole | Kind::Transfer))
 }
 
 // Room for a kind.
@@ -61,7 +56,8 @@ pub const KIND_ROOM: u64 = 4;
 // One interval more.
 pub const RANK_INTERVAL: u64 = KIND_ROOM * spec_model::NAME_ROOM;
 
-// Fewest intervals left, then kind 2 before 3, then the lower name, as one number: the lower comes sooner.
+// Fewest intervals left, then kind 2 before 3, then the lower name, as one number: the lower comes sooner. The kind is a number
+// here, since the promise holds of any that C lends.
 pub fn rank(left: Intervals, kind: u32, name: Name) -> u64
     ensures { result ≡ (left.0 * kind_room + kind) * name_room + name_rank name }
 {
@@ -72,10 +68,7 @@ pub fn rank(left: Intervals, kind: u32, name: Name) -> u64
 pub fn owed_of(e: Entry) -> Slots
     ensures { result.0 ≡ owed_to e }
 {
-    if is_piece(e) {
-        return e.owed;
-    }
-    Slots(0)
+    if is_piece(e) { e.owed } else { Slots(0) }
 }
 
 // ---- C. what remains is shared in proportion
@@ -83,13 +76,10 @@ pub fn owed_of(e: Entry) -> Slots
 pub fn limit_of(e: Entry) -> Slots
     ensures { result.0 ≡ limit_of e }
 {
-    let kind = e.kind;
     let most = e.max.0;
-    if kind == 1 {
-        return Slots(base_numbers::less(most, e.min.0));
+    match e.kind() {
+        Some(Kind::Fraction) => Slots(most.saturating_sub(e.min.0)),
+        Some(Kind::Whole) => Slots(most.saturating_sub(e.given.0)),
+        _ => Slots(0),
     }
-    if kind == 2 {
-        return Slots(base_numbers::less(most, e.given.0));
-    }
-    Slots(0)
 }

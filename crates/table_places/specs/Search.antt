@@ -1,6 +1,9 @@
 -- The place of a name in a table: the entry that is there, and that place given back. Assumes nothing.
-use Rattle.std.specs.Prelude.{◌≡◌, refl, Bool, true, false, cond, not, ◌&&◌, ◌||◌, List, [], ◌∷◌, map, suc, ◌≤◌, ◌<◌, ltb, length, get_or, set}
+use Rattle.std.specs.Prelude.{◌≡◌, refl, Bool, true, false, cond, not, ◌&&◌, ◌||◌, ◌⊎◌, List, [], ◌∷◌, map, suc, ◌+◌, ◌≤◌, ◌<◌, ltb, leb, eqb, length, get_or, set, ℕ, Option, None, Some}
 use Rattle.std.proofs.Common.{sym, ap, ◌∙◌, inl, inr, not-suc-le-zero, le_of_suc-le-suc, arith, ltb-false}
+use borrow.Author.Tests.{eq-eqb, ne_eqb, lt-ltb, le-ltb, ltb-true, lt-leb, le-leb}
+use Rattle.std.proofs.lemmas.Option.{none-some, cond_some}
+use Rattle.std.specs.Option.{is_none, option_or}
 use Rattle.spec_lists.specs.Lists.{one_if, cons_if, keep, sum_of, any_of}
 use Rattle.base_lists.specs.Tests.{either, clash, and_false}
 use Rattle.base_lists.specs.All.{all_of, map_ext}
@@ -16,10 +19,58 @@ use Rattle.spec_model.specs.Tables.{held_of}
 use Rattle.spec_rules.specs.Calls.{holds}
 use Rattle.spec_rules.specs.Reading.{entry_for}
 use Rattle.spec_rules.specs.WellFormed.{Once}
-use Rattle.law_model.specs.Names.{same_true}
+use Rattle.law_model.specs.Names.{same_true, same_streams}
 
 abbrev pub is_held_as : Name → Entry → Bool
 is_held_as n e = is_held e && is_named n e
+
+-- the place p, where it is one of n
+abbrev pub found : (n p : ℕ) → Option ℕ
+found n p = cond (ltb p n) (Some p) None
+
+-- the first place that the name holds
+abbrev pub place_of : Name → List Entry → Option ℕ
+place_of n es = found (length es) (first_of (is_held_as n) es)
+
+-- where it is known to be one, and where not
+pub found_inside : {n p i : ℕ} → i ≡ p → i < n → Some i ≡ found n p
+found_inside {n} {p} {i} e h = rw (← e, lt-ltb i n h)
+
+pub found_past : {n p : ℕ} → n ≤ p → None ≡ found n p
+found_past {n} {p} h = rw (le-ltb p n h)
+
+-- one place more, p being the first among i: with a place that passes a test, or not
+pub found_more : (b : Bool) (p i : ℕ) → p ≤ i
+    → cond b (option_or (found i p) (Some i)) (found i p) ≡ found (i + 1) (cond b p (cond (eqb p i) (i + 1) p))
+found_more b p i h = go b (either (ltb p i))
+  where
+    go : (b : Bool) → (ltb p i ≡ true) ⊎ (ltb p i ≡ false)
+        → cond b (option_or (found i p) (Some i)) (found i p) ≡ found (i + 1) (cond b p (cond (eqb p i) (i + 1) p))
+    go true (inl q) = let k = ltb-true p i q in rw (q, lt-ltb p (i + 1) (omega arith))
+    go true (inr q) = let k : p ≡ i = omega (arith, ltb-false p i q) in rw (q, lt-ltb p (i + 1) (omega arith), k)
+    go false (inl q) = let k = ltb-true p i q in rw (q, ne_eqb p i (λ z. absurd (omega arith)), lt-ltb p (i + 1) (omega arith))
+    go false (inr q) =
+        let k : p ≡ i = omega (arith, ltb-false p i q) in rw (q, eq-eqb p i k, le-ltb (i + 1) (i + 1) (omega arith))
+
+pub found_some : {n p k : ℕ} → found n p ≡ Some k → (k < n) × (k ≡ p)
+found_some {n} {p} {k} e =
+    let c = cond_some (ltb p n) p k e in
+    let inside = ltb-true p n c.0 in
+    (omega (arith, c.1), sym c.1)
+
+pub none_found : (n p : ℕ) → is_none (found n p) ≡ leb n p
+none_found n p = go (either (ltb p n))
+  where
+    go : (ltb p n ≡ true) ⊎ (ltb p n ≡ false) → is_none (found n p) ≡ leb n p
+    go (inl q) = rw (q, lt-leb n p (ltb-true p n q))
+    go (inr q) = rw (q, le-leb n p (ltb-false p n q))
+
+pub found_none : {n p : ℕ} → None ≡ found n p → n ≤ p
+found_none {n} {p} e = ltb-false p n (go (ltb p n) e)
+  where
+    go : (b : Bool) → None ≡ cond b (Some p) None → b ≡ false
+    go true h = absurd (none-some p h)
+    go false h = refl
 
 pub held_as : (t : Table) (n : Name) → any_of (is_held_as n) t.entries ≡ holds t n
 held_as t n = sym (any_keep (is_named n) is_held t.entries)
@@ -67,6 +118,9 @@ held_by_name n some e = go (is_named n e) refl
     go : (b : Bool) → is_named n e ≡ b → (is_held e && b) ≡ b
     go true q = ap (λ m. not (is_nobody m) && true) (same_true e.name n q) ∙ ap (λ b. not b && true) some
     go false q = and_false (is_held e)
+
+pub eq_held : (n : Name) → is_nobody n ≡ false → (e : Entry) → eqb e.name.stream n.stream ≡ is_held_as n e
+eq_held n some e = same_streams e.name n ∙ sym (held_by_name n some e)
 
 module _ (n : Name) (z : is_nobody n ≡ true) where
   nobody_as : (e : Entry) → is_held_as n e ≡ false

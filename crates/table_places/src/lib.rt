@@ -1,10 +1,9 @@
-// The places of a table: an entry put at one, and the place of a request by its name, in a table by value and in a lent one.
+// The places of a table: an entry put at one, and the place of a request by its name.
 #![tactic(auto)]
 
-ghost use Rattle.std.specs.Prelude.{◌≡◌, length};
-ghost use Rattle.spec_model.specs.Tables.{places, put_in};
-ghost use Rattle.base_lists.specs.First.{first_of};
-ghost use Rattle.table_places.specs.Search.{is_held_as};
+ghost use Rattle.std.specs.Prelude.{◌≡◌};
+ghost use Rattle.spec_model.specs.Tables.{put_in};
+ghost use Rattle.table_places.specs.Search.{place_of};
 
 use spec_model::{Entry, Name, Table};
 
@@ -19,41 +18,18 @@ pub fn put_in(t: Table, place: usize, e: Entry) -> Table
     table
 }
 
-// The name of a free place is held by nobody.
-pub fn place_of(t: Table, name: Name) -> usize
-    ensures { result ≡ first_of (is_held_as name) t.entries }
+// The first place among the entries where the name is held, if there is one. The name of a free place is held by nobody.
+pub fn place_of(entries: &[Entry], name: Name) -> Option<usize>
+    ensures { result ≡ place_of name entries.now }
 {
-    if spec_model::is_nobody(name) {
-        return spec_model::NO_PLACE;
+    if name.is_nobody() {
+        return None;
     }
-    for place in 0..spec_model::PLACES {
-        let entry = t.entries[place];
-        if spec_model::same(entry.name, name) {
-            return place;
+    for place in 0..entries.len() {
+        let entry = entries[place];
+        if entry.name == name {
+            return Some(place);
         }
     }
-    spec_model::NO_PLACE
-}
-
-// The same among entries that lie somewhere, as many as a table has places.
-fn place_among(entries: &[Entry], name: Name) -> usize
-    requires { length entries.now ≡ places }
-    ensures { result ≡ first_of (is_held_as name) entries.now }
-{
-    if spec_model::is_nobody(name) {
-        return spec_model::NO_PLACE;
-    }
-    for i in 0..spec_model::PLACES {
-        let e = entries[i];
-        if spec_model::same(e.name, name) {
-            return i;
-        }
-    }
-    spec_model::NO_PLACE
-}
-
-pub fn place_in(table: &Table, name: Name) -> usize
-    ensures { result ≡ first_of (is_held_as name) table.now.entries }
-{
-    place_among(&table.entries, name)
+    None
 }

@@ -1,2 +1,3 @@
 pub mod Zips
+pub mod Claims
 pub mod Queues

@@ -24,6 +24,7 @@ use Rattle.law_steps.specs.Ranks.{rank}
 use Rattle.law_steps.proofs.Ranks.{rank_sooner, held_ranked, held_rank}
 use Rattle.table_entry.specs.Amounts.{owed_to, limit_of, jobs_in}
 use Rattle.table_queue.specs.Zips.{zip, zip_map}
+use Rattle.table_queue.specs.Claims.{ranks_in, owed_in, limits_in, jobs_of}
 use Rattle.table_queue.specs.declared.Queue.{Queue}
 
 -- the largest number of 32 bits; that of 64, which is nobody's rank
@@ -56,23 +57,16 @@ piece_of c ranks owed k o = min o (c - owed_below k ranks owed)
 abbrev pub pieces_of : (c : ℕ) (ranks owed : List ℕ) → List ℕ
 pieces_of c ranks owed = zip (piece_of c ranks owed) ranks owed
 
--- arrays of ranks and of amounts of which only the first places are used
-pub record Queueing (ranks owed : List ℕ) (used : ℕ) : Type 0 where
-  pub ranked : used ≤ length ranks
-  pub short : used ≤ places
-  pub room : used ≤ length owed
-  pub spare : Spare 0 used owed
-
 -- the queue of a table
 pub record Queued (t : Table) (q : Queue) : Type 0 where
   pub used : Used q.used t
   pub load : q.load ≡ load (held_of t)
-  pub ranks : q.ranks ≡ map rank t.entries
-  pub owed : q.owed ≡ map owed_to t.entries
-  pub limits : q.limits ≡ map limit_of t.entries
-  pub jobs : q.jobs ≡ map jobs_in t.entries
+  pub ranks : ranks_in q.claims ≡ map rank t.entries
+  pub owed : owed_in q.claims ≡ map owed_to t.entries
+  pub limits : limits_in q.claims ≡ map limit_of t.entries
+  pub jobs : jobs_of q.claims ≡ map jobs_in t.entries
 
-queued_spare : {t : Table} {q : Queue} → Queued t q → (q.used ≤ places) × Spare 0 q.used q.owed
+queued_spare : {t : Table} {q : Queue} → Queued t q → (q.used ≤ places) × Spare 0 q.used (owed_in q.claims)
 queued_spare {t} {q} w = (w.used.0, rw w.owed (spare_map free_entry owed_to q.used t.entries w.used.1))
 
 -- no entry has more than sixteen jobs
@@ -91,9 +85,9 @@ jobs_most e = go (is_held e)
 -- what the sharing of an interval asks of a queue
 pub record Bounded (q : Queue) : Type 0 where
   pub used : q.used ≤ places
-  pub owed : Spare 0 q.used q.owed
-  pub limits : Spare 0 q.used q.limits
-  pub jobs : All (λ m. m ≤ 16) q.jobs
+  pub owed : Spare 0 q.used (owed_in q.claims)
+  pub limits : Spare 0 q.used (limits_in q.claims)
+  pub jobs : All (λ m. m ≤ 16) (jobs_of q.claims)
 
 pub queued_bounded : {t : Table} {q : Queue} → Tidy t → Queued t q → Bounded q
 queued_bounded {t} {q} w k =
@@ -153,6 +147,6 @@ pieces_right t w c =
         go (inr p) = ap₂ (λ a b. min a (c - b)) (ap (λ b. cond b e.owed.0 0) (piece_of_lem e p.kind)) (below_before e h w.entries)
 
 -- what a program finds of a table's queue
-pub takes_found : (t : Table) → Tidy t → {q : Queue} → Queued t q → (c : ℕ) {ps : List ℕ} → ps ≡ pieces_of c q.ranks q.owed
+pub takes_found : (t : Table) → Tidy t → {q : Queue} → Queued t q → (c : ℕ) {ps : List ℕ} → ps ≡ pieces_of c (ranks_in q.claims) (owed_in q.claims)
     → ps ≡ map (takes c t.entries) t.entries
 takes_found t w k c p = p ∙ ap₂ (pieces_of c) k.ranks k.owed ∙ pieces_right t w c

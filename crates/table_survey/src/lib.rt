@@ -2,7 +2,7 @@
 // interval takes, and the last place in use. One pass finds all of it, since each function that reads the places has a copy of the table.
 #![tactic(auto)]
 
-ghost use Rattle.std.specs.Prelude.{true, cond, ◌||◌, ◌≡◌, ◌+◌, ◌*◌, ◌≤◌, ◌<◌, eqb, leb};
+ghost use Rattle.std.specs.Prelude.{true, ◌≡◌, ◌+◌, ◌*◌, ◌≤◌, ◌<◌, leb};
 ghost use Rattle.spec_lists.specs.Lists.{sum_of};
 ghost use Rattle.base_lists.specs.First.{first_of};
 ghost use Rattle.spec_model.specs.Tables.{places};
@@ -11,6 +11,7 @@ ghost use Rattle.spec_rules.specs.Calls.{holds};
 ghost use Rattle.spec_rules.specs.WellFormed.{Tidy};
 ghost use Rattle.spec_rules.specs.Share.{load_of};
 ghost use Rattle.law_model.specs.Frames.{most_slots};
+ghost use Rattle.table_places.specs.Search.{found};
 ghost use Rattle.table_queue.specs.Queues.{Used};
 ghost use Rattle.ahead_even.specs.Need.{even_need};
 ghost use Rattle.table_survey.specs.Free.{is_free};
@@ -18,64 +19,45 @@ ghost use Rattle.table_survey.specs.Passes.{with_entry, most_need};
 
 use spec_model::{Entry, Frame, Name, Table};
 
-// Whether the name is held; the first free place, or no place; the slots of an interval that an even share takes; one more than
-// the last held place, 0 where none is held.
+// Whether the name is held; the first free place, if there is one; the slots of an interval that an even share takes; one more
+// than the last held place, 0 where none is held.
 #[derive(Clone, Copy)]
 pub struct Survey {
     pub taken: bool,
-    pub free: usize,
+    pub free: Option<usize>,
     pub needed: u64,
     pub used: usize,
 }
 
-fn or_else(a: bool, b: bool) -> bool
-    ensures { result ≡ (a || b) }
-{
-    if a {
-        return true;
-    }
-    b
-}
-
-// Place i is held: where every place before it is too, the next may be free.
-fn free_after(free: usize, i: usize) -> usize
-    requires { i < places }
-    ensures { result ≡ cond (eqb free i) (i + 1) free }
-{
-    if free == i {
-        return i + 1;
-    }
-    free
-}
-
-// One place more: a free one adds nothing.
+// One place more: a free one is the first, or adds nothing.
 fn look_at(s: Survey, e: Entry, i: usize, name: Name) -> Survey
     requires i_lt_places { (i < places) × (s.needed ≤ most_need * i) }
     requires e_bound { (load_of e ≤ most_slots) × (is_free e ≡ true → even_need e ≡ 0) }
     ensures { (result ≡ with_entry name i e s) × (result.needed ≤ most_need * (i + 1)) }
 {
-    if spec_model::is_nobody(e.name) {
-        return s;
+    if e.name.is_nobody() {
+        return Survey {
+            free: s.free.or(Some(i)),
+            ..s
+        };
     }
-    let taken = or_else(s.taken, spec_model::same(e.name, name));
-    let free = free_after(s.free, i);
     let need = ahead_even::need_of(e);
     Survey {
-        taken,
-        free,
+        taken: s.taken | (e.name == name),
         needed: s.needed + need,
         used: i + 1,
+        ..s
     }
 }
 
 pub fn survey_for(t: Table, name: Name) -> Survey
     requires { Tidy t }
-    ensures { (result.taken ≡ holds t name) × (result.free ≡ first_of is_free t.entries) × (result.needed ≡ sum_of even_need t.entries)
+    ensures { (result.taken ≡ holds t name) × (result.free ≡ found places (first_of is_free t.entries)) × (result.needed ≡ sum_of even_need t.entries)
         × Used result.used t }
 {
     let mut s = Survey {
         taken: false,
-        free: 0,
+        free: None,
         needed: 0,
         used: 0,
     };

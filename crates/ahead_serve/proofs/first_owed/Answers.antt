@@ -1,23 +1,24 @@
--- `ahead_serve::first_owed` meets its contract. The invariant: the lowest rank that is owed something among the first i places. Assumes
--- nothing.
-use native.Mathlib.Omega.{arith}
-use Rattle.ahead_serve.proofs.Searching.{searching_none, searching_better, searching_passed, searching_all}
+use Rattle.std.proofs.Common.{arith}
+use Rattle.ahead_serve.proofs.Searching.{turn_better, turn_paid, turn_higher, searching_nobody, searching_some}
 use Rattle.ahead_serve.proofs.first_owed.Goals as goal
-use Rattle.ahead_serve.proofs.first_owed.Goals.{then-ranks-i+then-owed-i-gt0, then-ranks-i+else-owed-i-gt0, else-ranks-i}
-
-pub loop-i-init : goal.loop-i-init
-loop-i-init c = (omega arith, searching_none)
+use Rattle.ahead_serve.proofs.first_owed.Goals.{then-f-gt0+then-f-least, else-f-gt0, else-f-gt0-via-then-f-gt0+else-f-least, else-f-gt0-via-else-f-gt0}
 
 pub loop-i-preserved : goal.loop-i-preserved
 loop-i-preserved c =
-    let s = c.loop-i.invariant.1 in (
+    let s = c.loop-i.invariant.1 in
+    let figures = c.args.figures.now in (
       omega arith,
-      elim c.if-ranks-i.branch [
-        | then-ranks-i+then-owed-i-gt0 w ↦ rw (w.first-is, w.least-is) (searching_better s w.if-ranks-i.true w.if-owed-i-gt0.true (omega (arith, c.requires.owing.short)))
-        | then-ranks-i+else-owed-i-gt0 w ↦ rw (w.first-is, w.least-is) (searching_passed s (λ h. absurd (omega (arith, w.if-owed-i-gt0.false))))
-        | else-ranks-i w ↦ rw (w.first-is, w.least-is) (searching_passed s (λ h. w.if-ranks-i.false))
+      elim c.if-f-gt0.branch [
+        | then-f-gt0+then-f-least w ↦ rw (w.first-is, w.least-is) (turn_better figures s (omega arith) _ w.if-f-least.true w.if-f-gt0.true)
+        | else-f-gt0 w ↦ rw (w.first-is, w.least-is) (elim w.else-f-gt0.branch [
+          | else-f-gt0-via-then-f-gt0+else-f-least v ↦ turn_higher figures s (omega arith) _ v.if-f-least.false
+          | else-f-gt0-via-else-f-gt0 v ↦ turn_paid figures s (omega arith) _ v.if-f-gt0.false
+        ])
       ],
     )
 
+pub returns-then-least : goal.returns-then-least
+returns-then-least c = searching_nobody c.loop-i.invariant.1 c.requires (omega arith) c.if-least.true
+
 pub returns : goal.returns
-returns c = searching_all c.loop-i.invariant.1 c.requires c.loop-i-test.false
+returns c = searching_some c.loop-i.invariant.1 c.requires (omega arith) c.if-least.false

@@ -5,4 +5,4 @@ use Rattle.beacon_advance.specs.Moving.{after_grant}
 use Rattle.beacon_advance.proofs.advance.Given as goal
 
 abbrev pub invariant-loop-i : goal.invariant-loop-i
-invariant-loop-i l = (l.i ≤ l.used) × (l.next ≡ with_entries l.initial.next (zipped after_grant l.i l.s.grants l.initial.next.entries))
+invariant-loop-i l = (l.i ≤ l.used) × (l.next ≡ with_entries l.fn.t (zipped after_grant l.i l.fn.s.grants l.fn.t.entries))

@@ -3,4 +3,4 @@ use Rattle.beacon_extras.specs.Extras.{Added}
 use Rattle.beacon_extras.proofs.extras_pass.Given as goal
 
 abbrev pub invariant-loop-i : goal.invariant-loop-i
-invariant-loop-i l = Added l.t l.used l.i l.sums
+invariant-loop-i l = Added l.fn.t l.used l.i l.sums

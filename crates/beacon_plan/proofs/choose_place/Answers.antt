@@ -1,65 +1,44 @@
 -- `beacon_plan::choose_place` meets its contract. Assumes nothing.
-use Rattle.std.proofs.Common.{◌≡◌, sym, subst, ◌∙◌, ◌≤◌, ◌<◌, ◌+◌, length, drop, get_or, arith}
-use Rattle.spec_lists.specs.All.{All}
-use Rattle.base_lists.specs.All.{all_at}
-use Rattle.law_model.specs.Frames.{most_slots}
-use Rattle.beacon_plan.specs.Places.{no_release, place_better, place_kept, due_soon, due_never, place_end}
+use Rattle.std.proofs.Common.{sym, ◌∙◌, ◌<◌, length, lt-ltb, le-ltb, arith}
+use Rattle.spec_model.specs.Tables.{places}
+use Rattle.beacon_plan.specs.Progress.{placed, chosen_taken, chosen_early, chosen_due, chosen_end}
 use Rattle.beacon_plan.proofs.choose_place.Goals as goal
-use Rattle.beacon_plan.proofs.choose_place.Goals.{then-release-t+then-due-best, then-release-t+else-due-best, else-release-t}
-
-pub overflow_add-due : goal.overflow_add-due
-overflow_add-due c =
-    let h : c.loop-i.i < length c.args.lengths.now = omega arith in
-    let short = all_at (λ T. T ≤ most_slots) c.args.lengths.now 0 c.requires.t_le_most_slots.1.1 c.loop-i.i h in
-    omega arith
+use Rattle.beacon_plan.proofs.choose_place.Goals.{then-row-t+then-row-best, else-row-t, else-row-t-via-then-row-t+else-row-best, else-row-t-via-else-row-t}
 
 pub loop-i-preserved : goal.loop-i-preserved
 loop-i-preserved c =
-    let a = c.args in
+    let t = c.args.t.0 in
+    let ps = c.args.progress.now in
     let i = c.loop-i.i in
-    let p = c.loop-i.place in
+    let p = placed c.loop-i.place in
     let d = c.loop-i.best in
-    let T = get_or a.lengths.now i 0 in
-    let r = get_or a.releases.now i 0 in
-    let h : i < length a.lengths.now = omega arith in
-    let k : i < length a.releases.now = omega arith in
-    let so_far = c.loop-i.invariant.1.1 in
-    elim c.if-release-t.branch [
-      | then-release-t+then-due-best w ↦ (
-        omega arith,
-        (
-          omega (arith, w.if-due-best.true, w.best-is),
-          so_far
-              ∙ place_better a.t.0 i p d (r + T) a.lengths.now a.releases.now h k (due_soon a.t.0 T r w.if-release-t.true) w.if-due-best.true
-              ∙ rw (w.place-is, w.best-is),
-        ),
-      )
-      | then-release-t+else-due-best w ↦ (
-        omega arith,
-        (
-          omega (arith, w.best-is),
-          so_far
-              ∙ place_kept a.t.0 i p d (r + T) a.lengths.now a.releases.now h k (due_soon a.t.0 T r w.if-release-t.true) w.if-due-best.false
-              ∙ rw (w.place-is, w.best-is),
-        ),
-      )
-      | else-release-t w ↦ (
-        omega arith,
-        (
-          omega (arith, w.best-is),
-          so_far
-              ∙ place_kept a.t.0 i p d no_release a.lengths.now a.releases.now h k (due_never a.t.0 T r w.if-release-t.false) c.loop-i.invariant.1.0
-              ∙ rw (w.place-is, w.best-is),
-        ),
-      )
+    let k : i < length ps = omega arith in
+    let h : i < places = omega arith in
+    let so_far = c.loop-i.invariant.chosen in
+    elim c.if-row-t.branch [
+      | then-row-t+then-row-best w ↦ record {
+        chosen = so_far ∙ chosen_taken t i p d ps k w.if-row-t.true w.if-row-best.true ∙ rw (w.place-is, w.best-is, lt-ltb i places h);
+        within = rw w.place-is (λ q. omega arith);
+      }
+      | else-row-t w ↦ record {
+        chosen = so_far
+            ∙ elim w.else-row-t.branch [
+              | else-row-t-via-then-row-t+else-row-best v ↦ chosen_due t i p d ps k v.if-row-t.true v.if-row-best.false
+              | else-row-t-via-else-row-t v ↦ chosen_early t i p d ps k v.if-row-t.false
+            ]
+            ∙ rw (w.place-is, w.best-is);
+        within = rw w.place-is (λ q. omega (arith, c.loop-i.invariant.within q));
+      }
     ]
 
-pub returns : goal.returns
-returns c =
-    let a = c.args in
-    let e : a.rows ≡ c.loop-i.i = omega arith in
-    let spare = subst (λ i. All (λ r. r ≡ no_release) (drop i a.releases.now)) e c.requires.padded.1.1 in
-    let soon : a.t.0 < no_release = omega arith in
-    sym
-    (c.loop-i.invariant.1.1
-    ∙ place_end a.t.0 c.loop-i.i c.loop-i.place c.loop-i.best (drop c.loop-i.i a.lengths.now) soon c.loop-i.invariant.1.0 spare)
+pub returns-then-place-lt-PLACES-clause-place : goal.returns-then-place-lt-PLACES-clause-place
+returns-then-place-lt-PLACES-clause-place c =
+    let l = c.loop-i in
+    let e = l.invariant.chosen ∙ chosen_end c.args.t.0 l.i (placed l.place) l.best c.args.progress.now (omega arith) in
+    sym (rw (lt-ltb l.place places c.if-place-lt-PLACES.true) at e)
+
+pub returns-clause-place : goal.returns-clause-place
+returns-clause-place c =
+    let l = c.loop-i in
+    let e = l.invariant.chosen ∙ chosen_end c.args.t.0 l.i (placed l.place) l.best c.args.progress.now (omega arith) in
+    sym (rw (le-ltb l.place places c.if-place-lt-PLACES.false) at e)

@@ -1,35 +1,28 @@
-use Rattle.std.proofs.Common.{◌≡◌, refl, sym, ap, ◌∙◌, arith}
-use Rattle.std.specs.Prelude.{ltb}
-use Rattle.base_lists.specs.Tests.{cond_zero}
-use Rattle.base_lists.specs.Loops.{summed, summed_more}
-use Rattle.base_lists.specs.Spare.{spare_sum}
-use Rattle.table_queue.specs.Zips.{zip, length_zip, zip_at, zip_spare}
+use Rattle.std.proofs.Common.{◌≡◌, sym, ap, ◌∙◌, ◌+◌, cond, get_or, refl, ltb, arith, lt-ltb, le-ltb}
+use Rattle.base_lists.specs.Tests.{cond_le}
+use Rattle.base_lists.specs.Loops.{summed_more, summed_all}
+use Rattle.table_queue.specs.Claims.{no_claim}
+use Rattle.beacon_share.specs.InUse.{below_sum}
 use Rattle.beacon_share.proofs.owed_below.Invariants.{lower}
 use Rattle.beacon_share.proofs.owed_below.Goals as goal
+use Rattle.beacon_share.proofs.owed_below.Goals.{then-sooner, else-sooner}
 
-pub loop-i-init : goal.loop-i-init
-loop-i-init c = (omega arith, refl, omega arith)
-
-pub loop-i-preserved : goal.loop-i-preserved
-loop-i-preserved c =
-    let a = c.args in
-    let h = c.requires.ranked in
-    let k = c.requires.room in
-    let few = c.requires.short in
-    let f = lower a.own in (
-      omega arith,
-      summed_more (λ v. v) (zip f a.ranks.now a.owed.now) c.loop-i.i 0
-          (omega (arith, length_zip f a.ranks.now a.owed.now)) c.loop-i.invariant.1
-          (c.owed_if_lower-part.ensures ∙ sym (zip_at f a.ranks.now a.owed.now c.loop-i.i 0 0 0 (omega arith) (omega arith))),
-      omega arith,
+pub loop-claim-preserved : goal.loop-claim-preserved
+loop-claim-preserved c =
+    let cs = c.args.claims.now in
+    let own = c.args.own in
+    let i = c.loop-claim.claim-index in
+    let here = get_or cs i no_claim in
+    let more : c.if-sooner.all ≡ c.loop-claim.all + lower own here = elim c.if-sooner.branch [
+      | then-sooner w ↦ omega (arith, w.all-is, ap (λ b. cond b here.owed.0 0) (lt-ltb here.rank own w.if-sooner.true))
+      | else-sooner w ↦ omega (arith, w.all-is, ap (λ b. cond b here.owed.0 0) (le-ltb here.rank own w.if-sooner.false))
+    ] in (
+      more ∙ summed_more (lower own) cs i no_claim c.loop-claim-test.true c.loop-claim.invariant.0 refl,
+      omega (arith, more, cond_le (ltb here.rank own) here.owed.0),
     )
 
 pub returns : goal.returns
 returns c =
-    let a = c.args in
-    let e : c.loop-i.i ≡ a.used = omega arith in
-    let all = zip (lower a.own) a.ranks.now a.owed.now in
-    c.loop-i.invariant.1
-    ∙ ap (λ n. summed (λ v. v) n all) e
-    ∙ spare_sum 0 (λ v. v) refl a.used all
-    (zip_spare (lower a.own) (λ k. cond_zero (ltb k a.own)) a.used a.ranks.now a.owed.now c.requires.spare)
+    let cs = c.args.claims.now in
+    c.loop-claim.invariant.0 ∙ summed_all (lower c.args.own) cs c.loop-claim.claim-index c.loop-claim-test.false
+    ∙ sym (below_sum c.args.own cs)

@@ -1,35 +1,44 @@
-use Rattle.std.proofs.Common.{◌≡◌, List, ℕ, length, sym, ◌∙◌, arith}
-use Rattle.base_lists.specs.Spare.{filling_none, filling_more, filling_all}
+use Rattle.std.proofs.Common.{◌≡◌, List, map, ℕ, ◌≤◌, length, sym, ap, ◌∙◌, subst, arith}
+use Rattle.std.proofs.lemmas.List.{length-map}
+use Rattle.base_lists.specs.Loops.{map_at}
+use Rattle.base_lists.specs.Spare.{Spare, filling_none, filling_more, filling_all}
 use Rattle.spec_model.specs.Tables.{places}
-use Rattle.table_queue.specs.Zips.{length_zip, zip_at, zip_spare}
-use Rattle.table_queue.specs.Queues.{piece_of, pieces_of}
+use Rattle.spec_model.specs.declared.Slots.{Slots}
+use Rattle.table_queue.specs.Claims.{no_claim}
+use Rattle.table_queue.specs.declared.Claim.{Claim}
+use Rattle.beacon_share.specs.InUse.{slots, filled, piece_among, filled_sized, filled_at, filled_spare}
 use Rattle.beacon_share.proofs.pieces.Goals as goal
 
--- how many pieces there are
-sized : (capacity : ℕ) (ranks owed : List ℕ) → length ranks ≡ places → length owed ≡ places → length (pieces_of capacity ranks owed) ≡ places
-sized capacity ranks owed h k = omega (arith, length_zip (piece_of capacity ranks owed) ranks owed)
+module _ (E : ℕ) (cs : List Claim) (few : length cs ≤ places) where
+  abbrev own : Claim → Slots
+  own c = slots (piece_among E cs c)
+
+  sized : length (map own cs) ≡ length cs
+  sized = length-map cs own
+
+  room : length (map own cs) ≤ places
+  room = omega (arith, sized)
 
 pub loop-i-init : goal.loop-i-init
-loop-i-init c = filling_none (sized c.args.capacity.0 c.args.q.ranks c.args.q.owed (omega arith) (omega arith))
-
-pub piece_at-piece-requires : goal.piece_at-piece-requires
-piece_at-piece-requires c =
-    let few = c.requires.0 in
-    (record { ranked = omega arith; short = few; room = omega arith; spare = c.requires.1 }, c.loop-i-test.true)
+loop-i-init c =
+    let a = c.args in
+    filling_none (filled_sized (slots 0) (map (own a.capacity.0 a.claims.now c.requires) a.claims.now) (room a.capacity.0 a.claims.now c.requires))
 
 pub loop-i-preserved : goal.loop-i-preserved
 loop-i-preserved c =
-    let q = c.args.q in
-    let few = c.requires.0 in
-    let h : length q.ranks ≡ places = omega arith in
-    let k : length q.owed ≡ places = omega arith in
-    let t = c.loop-i-test.true in
-    filling_more c.loop-i.invariant 0 (omega (arith, sized c.args.capacity.0 q.ranks q.owed h k)) t
-    (c.piece_at-piece.ensures
-    ∙ sym (zip_at (piece_of c.args.capacity.0 q.ranks q.owed) q.ranks q.owed c.loop-i.i 0 0 0 (omega arith) (omega arith)))
+    let E = c.args.capacity.0 in
+    let cs = c.args.claims.now in
+    let i = c.loop-i.i in
+    let f : Claim → Slots = own E cs c.requires in
+    let l = sized E cs c.requires in
+    filling_more c.loop-i.invariant (slots 0) (omega (arith, l, filled_sized (slots 0) (map f cs) (room E cs c.requires))) c.loop-i-test.true
+    (ap slots c.piece_of.ensures
+    ∙ sym (filled_at (slots 0) (map f cs) (room E cs c.requires) i (omega (arith, l)) ∙ map_at f cs i no_claim (slots 0) c.loop-i-test.true))
 
 pub returns : goal.returns
 returns c =
-    let q = c.args.q in
+    let E = c.args.capacity.0 in
+    let cs = c.args.claims.now in
+    let f : Claim → Slots = own E cs c.requires in
     filling_all c.loop-i.invariant c.loop-i-test.false
-    (zip_spare (piece_of c.args.capacity.0 q.ranks q.owed) (λ k. omega arith) q.used q.ranks q.owed c.requires.1)
+    (subst (λ n. Spare (slots 0) n (filled (slots 0) (map f cs))) (sized E cs c.requires) (filled_spare (slots 0) (map f cs) (room E cs c.requires)))

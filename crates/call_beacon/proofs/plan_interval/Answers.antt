@@ -1,6 +1,5 @@
 use Rattle.std.proofs.Common.{◌≡◌, true, ◌*◌, ◌++◌, length, drop, refl, sym, ap, subst, ◌∙◌, arith, lt-ltb, le-ltb}
 use Rattle.std.specs.Prelude.{ltb}
-use Rattle.spec_model.specs.Numbers.{beacon_number}
 use Rattle.spec_model.specs.declared.Table.{Table}
 use Rattle.spec_rules.specs.Calls.{plan_of, beacon}
 use Rattle.spec_rules.specs.Records.{record_words, words_of, plan_words}
@@ -17,17 +16,15 @@ use Rattle.call_beacon.proofs.plan_interval.Goals.{Joined-frame-gt0, then-frame-
 pub returns-then-plan-lt-PLAN_WORDS : goal.returns-then-plan-lt-PLAN_WORDS
 unfolding beacon
 returns-then-plan-lt-PLAN_WORDS c =
-    let u = c.unplanned.ensures in
     let q : ltb (length c.args.plan.now) plan_words ≡ true = lt-ltb _ _ c.if-plan-lt-PLAN_WORDS.true in
-    (rw q (ap beacon_number u.0), (rw q u.1.0, (rw q, stays_put u.1.1 (rw q))))
+    rw q (refl, (refl, (refl, stays_put refl refl)))
 
 pub returns-then-q-eq0 : goal.returns-then-q-eq0
 returns-then-q-eq0 c =
     let t = c.args.t in
-    let u = c.unplanned-then-q-eq0.ensures in
     let idle = subst (λ n. Used n t) c.if-q-eq0.true c.queue_of-q.ensures.used in
-    rw (none_beacon t idle c.args.plan.now (le-ltb _ _ c.if-plan-lt-PLAN_WORDS.false))
-    (ap beacon_number u.0, (u.1.0, (refl, stays_put u.1.1 refl)))
+    rw (none_beacon t idle c.args.plan.now (le-ltb _ _ c.if-plan-lt-PLAN_WORDS.false), c.nothing_planned.ensures)
+    (refl, (refl, (refl, stays_put refl refl)))
 
 pub shares_of-shares-requires : goal.shares_of-shares-requires
 shares_of-shares-requires c = queued_bounded c.requires.tidy c.queue_of-q.ensures

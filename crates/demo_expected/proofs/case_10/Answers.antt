@@ -12,6 +12,6 @@ written = record_words * 5
 pub expect_each-requires-2 : goal.expect_each-requires-2
 expect_each-requires-2 c =
     let l = c.beacon_of_case_1.new.plan in
-    let after = plan_later _ (plan_told (line 4)).0 c.refused_beacon-t.new.plan c.beacon_of_case_1.ensures.words in
-    let e = after ∙ ap (drop written) c.refused_beacon-t.ensures.words in
+    let after = plan_later _ (plan_told (line 4)).0 c.refused_beacon.new.plan c.beacon_of_case_1.ensures.words in
+    let e = after ∙ ap (drop written) c.refused_beacon.ensures.words in
     each_take (length l - written) (drop written l) (subst (Each 77777) (sym e) (each_drop written c.args.plan.now c.requires.each))

@@ -3,11 +3,6 @@ use Rattle.std.proofs.Common.{◌+◌}
 use Rattle.demo_expected.specs.Said.{at6, line}
 use Rattle.demo_expected.proofs.case_6.Goals as goal
 
-pub open-t-requires : goal.open-t-requires
-open-t-requires c = (line at6).answer
-
-pub offer-t-requires-clause-life_value : goal.offer-t-requires-clause-life_value
-offer-t-requires-clause-life_value c = rw c.open-t.ensures.is (line (at6 + 1)).answer
-
-pub offer-requires-clause-life_value : goal.offer-requires-clause-life_value
-offer-requires-clause-life_value c = rw (c.offer-t.ensures.is, c.open-t.ensures.is) (line (at6 + 2)).answer
+pub offers-requires : goal.offers-requires
+offers-requires c =
+    rw (c.open-planner.ensures, c.request.ensures, c.request-2.ensures) ((line (at6 + 1)).answer, ((line (at6 + 2)).answer, tt))

@@ -5,15 +5,12 @@ use Rattle.demo_expected.proofs.case_9.Goals as goal
 
 pub expect_window-requires : goal.expect_window-requires
 expect_window-requires c =
-    let w = window_told (line (at9 + 4)) (line (at9 + 5)) _ c.beacon_of_case_1.ensures.words in
-    record { until_value = w.0; until_value_2 = w.1 }
+    window_told (line (at9 + 4)) (line (at9 + 5)) _ c.beacon_of_case_1.ensures.words
 
 pub expect_window-requires-2 : goal.expect_window-requires-2
 expect_window-requires-2 c =
-    let w = window_told (line (at9 + 4)) (line (at9 + 6)) _ c.beacon_of_case_1.ensures.words in
-    record { until_value = w.0; until_value_2 = w.1 }
+    window_told (line (at9 + 4)) (line (at9 + 6)) _ c.beacon_of_case_1.ensures.words
 
 pub expect_window-requires-3 : goal.expect_window-requires-3
 expect_window-requires-3 c =
-    let w = window_told (line (at9 + 4)) (line (at9 + 7)) _ c.beacon_of_case_1.ensures.words in
-    record { until_value = w.0; until_value_2 = w.1 }
+    window_told (line (at9 + 4)) (line (at9 + 7)) _ c.beacon_of_case_1.ensures.words

@@ -2,12 +2,12 @@
 use Rattle.demo_expected.specs.Said.{plan_told, line}
 use Rattle.demo_expected.proofs.cases_1_to_3.Goals as goal
 
-pub beacon-t-requires-clause-t_value : goal.beacon-t-requires-clause-t_value
-beacon-t-requires-clause-t_value c =
+pub beacon-requires-clause-planned : goal.beacon-requires-clause-planned
+beacon-requires-clause-planned c =
     let f = rw (plan_told (line 4)).1 at (plan_told (line 6)).0 in
-    rw c.beacon_of_case_1-t.ensures.is f
+    rw c.beacon_of_case_1.ensures.is f
 
-pub beacon-requires-clause-t_value : goal.beacon-requires-clause-t_value
-beacon-requires-clause-t_value c =
+pub beacon-requires-2-clause-planned : goal.beacon-requires-2-clause-planned
+beacon-requires-2-clause-planned c =
     let f = rw ((plan_told (line 6)).1, (plan_told (line 4)).1) at (plan_told (line 8)).0 in
-    rw (c.beacon-t.ensures.is, c.beacon_of_case_1-t.ensures.is) f
+    rw (c.beacon.ensures.is, c.beacon_of_case_1.ensures.is) f

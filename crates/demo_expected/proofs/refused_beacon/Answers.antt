@@ -11,10 +11,10 @@ short_words = plan_words - 1
 
 pub expect_beacon-requires : goal.expect_beacon-requires
 expect_beacon-requires c =
-    let e = rw (short_beacon _ short_words c.args.plan.now (omega arith)) at c.beacon-b.ensures in
-    record { answer_value = e.0; count_value = e.1.0 }
+    let e = rw (short_beacon _ short_words c.args.plan.now (omega arith)) at c.beacon-sent.ensures in
+    record { answer = e.0; count = e.1.0 }
 
 pub returns : goal.returns
 returns c =
-    let e = rw (short_beacon _ short_words c.args.plan.now (omega arith)) at c.beacon-b.ensures in
-    record { is = e.1.1.0; formed = rw e.1.1.0 c.requires.well_formed; words = as_before short_words e.1.1.1 }
+    let e = rw (short_beacon _ short_words c.args.plan.now (omega arith)) at c.beacon-sent.ensures in
+    record { is = e.1.1.0; words = as_before short_words e.1.1.1 }

@@ -1,26 +1,13 @@
-use Rattle.std.proofs.Common.{◌∙◌, ap, cond, ◌≤◌, length, sym, arith}
-use Rattle.std.proofs.lemmas.Bool.{lt-ltb}
-use Rattle.std.proofs.Common.{le-ltb}
-use Rattle.spec_model.specs.Entries.{free_entry}
+use mathlib.Core.Path.{ap, ◌∙◌}
 use Rattle.spec_model.specs.Tables.{put_in}
-use Rattle.call_held.specs.Held.{held_answer_lem, held_freed}
-use Rattle.table_places.specs.Put.{put_past}
+use Rattle.call_held.specs.Held.{some_held, none_held}
 use Rattle.gelmush.proofs.gelmush_withdraw.Goals as goal
 
-pub returns-then-at-lt-PLACES : goal.returns-then-at-lt-PLACES
-returns-then-at-lt-PLACES c =
-    let t = c.args.table.now in
-    let e = c.place_in-at.ensures in (
-      held_answer_lem t c.requires _ e (sym (ap (λ b. cond b 0 20) (lt-ltb _ _ c.if-at-lt-PLACES.true))),
-      ap (put_in t c.place_in-at.result) c.free_entry-free.ensures ∙ held_freed t c.requires _ e,
-    )
+pub returns-in-Some : goal.returns-in-Some
+returns-in-Some c =
+    let h = (some_held _ c.requires _ c.place_of-place.ensures c.in-Some.is).1 in
+    (h.0, ap (put_in c.args.table.now c.in-Some.at) c.free_entry.ensures ∙ h.1.0)
 
--- what would be put past the last place changes nothing
-pub returns : goal.returns
-returns c =
-    let t = c.args.table.now in
-    let e = c.place_in-at.ensures in
-    let past : length t.entries ≤ c.place_in-at.result = omega (arith, c.requires.tidy.size) in (
-      held_answer_lem t c.requires _ e (sym (ap (λ b. cond b 0 20) (le-ltb _ _ c.if-at-lt-PLACES.false))),
-      sym (put_past t c.place_in-at.result free_entry past) ∙ held_freed t c.requires _ e,
-    )
+pub returns-in-None : goal.returns-in-None
+returns-in-None c =
+    let h = none_held _ c.requires _ c.place_of-place.ensures c.in-None.is in (c.number.ensures ∙ h.0, h.1.1.0)

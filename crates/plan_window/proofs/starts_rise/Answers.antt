@@ -1,41 +1,26 @@
--- Each start passed is below the next. Assumes nothing.
-use mathlib.Core.Path.{refl}
-use native.Mathlib.Omega.{arith}
-use Rattle.plan_window.specs.Laws.{rises_broken, rises_on, rises_ended}
+-- The start before the one that a turn reads is that of the turn before it. Assumes nothing.
+use Rattle.std.proofs.Common.{◌≡◌, ◌+◌, ◌-◌, ap, subst, ◌∙◌, arith}
+use Rattle.plan_record.specs.Starts.{start_at}
+use Rattle.plan_window.specs.Laws.{Rising, rises_broken, rises_on, rises_ended}
 use Rattle.plan_window.proofs.starts_rise.Goals as goal
-
-pub loop-i-init : goal.loop-i-init
-loop-i-init c = (omega arith, refl)
-
-pub overflow_add-i : goal.overflow_add-i
-overflow_add-i c = omega arith
-
-pub overflow_add-i-in-loop-i : goal.overflow_add-i-in-loop-i
-overflow_add-i-in-loop-i c = omega arith
-
-pub start_of-next-requires : goal.start_of-next-requires
-start_of-next-requires c = omega arith
-
-pub start_of-last-requires : goal.start_of-last-requires
-start_of-last-requires c = omega arith
 
 pub returns-then-next-last : goal.returns-then-next-last
 returns-then-next-last c =
-    let b = c.before.before.before in
-    let w = b.before.before.before.loop-i.invariant.1 in
-    rises_broken _ _ _ w (omega arith) b.start_of-last.ensures b.before.start_of-next.ensures c.if-next-last.true
-
-pub overflow_add-i-in-loop-i-2 : goal.overflow_add-i-in-loop-i-2
-overflow_add-i-in-loop-i-2 c = omega arith
-
-pub loop-i-smaller : goal.loop-i-smaller
-loop-i-smaller c = omega arith
+    let i = c.loop-i.i in
+    let e : i ≡ i - 1 + 1 = omega arith in
+    rises_broken _ _ (i - 1) c.loop-i.invariant.1 (omega arith) c.start_of-last.ensures
+    (c.start_of-next.ensures ∙ ap (start_at c.args.plan.now) e) c.if-next-last.true
 
 pub loop-i-preserved : goal.loop-i-preserved
 loop-i-preserved c =
-    let b = c.before.before.before in
-    let w = b.before.before.before.loop-i.invariant.1 in
-    (omega arith, rises_on _ _ _ w (omega arith) b.start_of-last.ensures b.before.start_of-next.ensures c.if-next-last.false)
+    let i = c.loop-i.i in
+    let e : i ≡ i - 1 + 1 = omega arith in
+    let on : i - 1 + 1 ≡ i + 1 - 1 = omega arith in (
+      omega arith,
+      subst (Rising c.args.count c.args.plan.now) on
+          (rises_on _ _ (i - 1) c.loop-i.invariant.1 (omega arith) c.start_of-last.ensures
+          (c.start_of-next.ensures ∙ ap (start_at c.args.plan.now) e) c.if-next-last.false),
+    )
 
 pub returns : goal.returns
-returns c = rises_ended _ _ _ c.before.loop-i.invariant.1 c.loop-i-test.false
+returns c = rises_ended _ _ (c.loop-i.i - 1) c.loop-i.invariant.1 (omega arith)

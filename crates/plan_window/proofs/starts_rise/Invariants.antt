@@ -4,7 +4,4 @@ use Rattle.plan_window.specs.Laws.{Rising}
 use Rattle.plan_window.proofs.starts_rise.Given as goal
 
 abbrev pub invariant-loop-i : goal.invariant-loop-i
-invariant-loop-i l = (l.i ≤ l.count) × Rising l.count l.plan l.i
-
-abbrev pub decreases-loop-i : goal.decreases-loop-i
-decreases-loop-i l = l.count - l.i
+invariant-loop-i l = (1 ≤ l.i) × Rising l.count l.plan (l.i - 1)

@@ -1,66 +1,48 @@
--- `row_fields::read_number` meets its contract. The invariant: the digits from place i on, after the value so far, spell what the whole
--- spells. The measure is the number of bytes left. Assumes nothing.
-use mathlib.Core.Path.{◌≡◌, refl, sym, ◌∙◌}
-use mathlib.Core.Bool.{Bool, true}
-use Prim.Native.Nat.{ℕ, ◌≤◌}
-use native.Mathlib.Omega.{arith}
-use lib.ListN.{get_or}
+-- `row_fields::read_number` meets its contract. Assumes nothing.
+use Rattle.std.proofs.Common.{◌≡◌, rules, tests, arith, ℕ, ◌<◌, ◌+◌, ◌-◌, ◌*◌, List, drop, length, get_or, true, false, Option, None, refl, sym, ◌∙◌}
+use Rattle.std.proofs.lemmas.Bool.Decides.{nat_tests}
 use Rattle.spec_lists.specs.Lists.{within}
-use Rattle.base_lists.specs.Tests.{within_both}
-use Rattle.row_fields.specs.FieldLaws.{too_large, no_digit, digit_next, spelt_next, digits_end, spelt_end}
-use Rattle.row_fields.specs.ReadLaws.{too_short, too_long, not_spelt, well_spelt}
+use Rattle.spec_text.specs.declared.Field.TheVariants.{Needed}
+use Rattle.row_fields.specs.FieldReads.{field_read}
+use Rattle.row_fields.specs.ReadLaws.{digits_read, needed_read, not_read, no_digit, digit_next, too_large, digits_end}
 use Rattle.row_fields.proofs.read_number.Goals as goal
 
-pub returns-then-field-lt1 : goal.returns-then-field-lt1
-returns-then-field-lt1 c = too_short _ c.if-field-lt1.true
+pub returns-then-not-contains : goal.returns-then-not-contains
+returns-then-not-contains c =
+    let n = length c.args.field.now in
+    let e : within 1 10 n ≡ false = search (rules, tests) in
+    rw (needed_read c.args.field.now, e)
 
-pub returns-then-field-gt-DIGITS_MOST : goal.returns-then-field-gt-DIGITS_MOST
-returns-then-field-gt-DIGITS_MOST c = too_long _ c.if-field-gt-DIGITS_MOST.true
+pub loop-byte-init : goal.loop-byte-init
+loop-byte-init c = (omega arith, refl)
 
-pub loop-i-init : goal.loop-i-init
-loop-i-init c = (omega arith, refl, refl, omega arith)
+-- what the loop has read so far has no number, so the field has none
+module _ (f : List ℕ) {r : Option ℕ} (i v : ℕ) (h : i < length f) (e : digits_read v (drop i f) ≡ digits_read 0 f) (q : r ≡ None) where
+  no_more : within 48 57 (get_or f i 0) ≡ false → r ≡ field_read Needed f
+  no_more k = q ∙ sym (not_read f (sym e ∙ no_digit f i v h k))
 
-pub overflow_cast-digit : goal.overflow_cast-digit
-overflow_cast-digit c = omega (arith, c.type_inv.field c.loop-i.i)
+  past : within 48 57 (get_or f i 0) ≡ true → 4294967295 < 10 * v + (get_or f i 0 - 48) → r ≡ field_read Needed f
+  past d k = q ∙ sym (not_read f (sym e ∙ digit_next f i v h d ∙ too_large _ _ k))
 
-pub returns-then-not-is_within : goal.returns-then-not-is_within
-returns-then-not-is_within c =
-    let e = sym c.is_within.ensures ∙ c.if-not-is_within.true in
-    not_spelt _ (sym c.loop-i.invariant.1 ∙ no_digit _ _ _ c.loop-i-test.true e)
+pub returns-then-not-is_ascii_digit : goal.returns-then-not-is_ascii_digit
+returns-then-not-is_ascii_digit c =
+    no_more _ _ _ c.loop-byte-test.true c.loop-byte.invariant.1 refl (sym c.is_ascii_digit.ensures.value ∙ c.if-not-is_ascii_digit.true)
 
--- the byte that the loop is at, once it has passed the test
-is_digit : {r : Bool} (b : ℕ) → r ≡ within 48 57 b → r ≡ true → within 48 57 b ≡ true
-is_digit b e t = sym e ∙ t
+pub returns-in_err-checked_mul : goal.returns-in_err-checked_mul
+returns-in_err-checked_mul c =
+    past _ _ _ c.loop-byte-test.true c.loop-byte.invariant.1 c.from_residual.ensures (sym c.is_ascii_digit.ensures.value ∙ c.if-not-is_ascii_digit.false) (omega arith)
 
-digit_range : {r : Bool} (b : ℕ) → r ≡ within 48 57 b → r ≡ true → (48 ≤ b) × (b ≤ 57)
-digit_range b e t = within_both 48 57 b (is_digit b e t)
+pub returns-in_err-value : goal.returns-in_err-value
+returns-in_err-value c =
+    past _ _ _ c.loop-byte-test.true c.loop-byte.invariant.1 c.from_residual-in_err-value.ensures (sym c.is_ascii_digit.ensures.value ∙ c.if-not-is_ascii_digit.false) (omega arith)
 
-pub overflow_sub-value : goal.overflow_sub-value
-overflow_sub-value c = omega (arith, digit_range (get_or c.args.field.now c.loop-i.i 0) c.is_within.ensures c.if-not-is_within.false)
-
-pub overflow_cast-value : goal.overflow_cast-value
-overflow_cast-value c = omega (arith, digit_range (get_or c.args.field.now c.loop-i.i 0) c.is_within.ensures c.if-not-is_within.false)
-
-pub overflow_add-value : goal.overflow_add-value
-overflow_add-value c = omega (arith, digit_range (get_or c.args.field.now c.loop-i.i 0) c.is_within.ensures c.if-not-is_within.false)
-
-pub returns-then-value-gt-NUMBER_MOST : goal.returns-then-value-gt-NUMBER_MOST
-returns-then-value-gt-NUMBER_MOST c =
-    let e = digit_next _ _ _ c.loop-i-test.true (is_digit (get_or c.args.field.now c.loop-i.i 0) c.is_within.ensures c.if-not-is_within.false) in
-    not_spelt _ (sym c.loop-i.invariant.1 ∙ e ∙ too_large _ _ c.if-value-gt-NUMBER_MOST.true)
-
-pub loop-i-preserved : goal.loop-i-preserved
-loop-i-preserved c =
-    let h = c.loop-i-test.true in
-    let v = c.loop-i.invariant in (
-      omega arith,
-      sym (digit_next _ _ _ h (is_digit (get_or c.args.field.now c.loop-i.i 0) c.is_within.ensures c.if-not-is_within.false)) ∙ v.1,
-      sym (spelt_next _ _ _ h) ∙ v.2,
-      c.if-value-gt-NUMBER_MOST.false,
-    )
+pub loop-byte-preserved : goal.loop-byte-preserved
+loop-byte-preserved c =
+    let e : c.in_ok-value.value ≡ 10 * c.loop-byte.value + (get_or c.args.field.now c.loop-byte.byte-index 0 - 48) = omega arith in
+    (omega arith, rw e (sym (digit_next _ _ _ c.loop-byte-test.true (sym c.is_ascii_digit.ensures.value ∙ c.if-not-is_ascii_digit.false)) ∙ c.loop-byte.invariant.1))
 
 pub returns : goal.returns
 returns c =
-    let d = c.loop-i in
-    let h = c.loop-i-test.false in
-    well_spelt _ (omega arith) (omega arith) (sym d.invariant.1 ∙ digits_end _ _ _ h d.invariant.3) (sym (spelt_end _ _ _ h) ∙ d.invariant.2)
+    let n = length c.args.field.now in
+    let e : within 1 10 n ≡ true = grind (arith, nat_tests) in
+    rw (needed_read c.args.field.now, e) (sym (digits_end _ _ _ c.loop-byte-test.false c.loop-byte.invariant.0) ∙ c.loop-byte.invariant.1)

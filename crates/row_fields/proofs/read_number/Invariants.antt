@@ -1,16 +1,9 @@
--- `row_fields::read_number` meets its contract. The invariant: the digits from place i on, after the value so far, spell what the whole
--- spells. The measure is the number of bytes left. Assumes nothing.
+-- The invariant: the digits from the place on, after the value so far, spell what the whole spells, and the value fits. Assumes nothing.
 use mathlib.Core.Path.{◌≡◌}
-use Prim.Native.Nat.{◌-◌, ◌≤◌}
-use lib.ListN.{length, drop}
-use Rattle.spec_text.specs.Fields.{spelt, value_of}
-use Rattle.row_fields.specs.FieldLaws.{spells}
+use Prim.Native.Nat.{◌≤◌}
+use lib.ListN.{drop}
+use Rattle.row_fields.specs.ReadLaws.{digits_read}
 use Rattle.row_fields.proofs.read_number.Given as goal
 
-abbrev pub invariant-loop-i : goal.invariant-loop-i
-invariant-loop-i l =
-    (l.i ≤ length l.field) × (spells l.value (drop l.i l.field) ≡ spells 0 l.field)
-    × (spelt l.value (drop l.i l.field) ≡ value_of l.field) × (l.value ≤ 4294967295)
-
-abbrev pub decreases-loop-i : goal.decreases-loop-i
-decreases-loop-i l = length l.field - l.i
+abbrev pub invariant-loop-byte : goal.invariant-loop-byte
+invariant-loop-byte l = (l.value ≤ 4294967295) × (digits_read l.value (drop l.byte-index l.field) ≡ digits_read 0 l.field)

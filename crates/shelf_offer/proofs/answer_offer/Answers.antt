@@ -1,21 +1,24 @@
-use mathlib.Core.Path.{◌≡◌, sym, ap, ◌∙◌}
-use native.Mathlib.Omega.{arith}
-use lib.ListN.{length}
-use Rattle.law_rows.specs.Puts.{none_put}
+-- `shelf_offer::answer_offer` meets its contract, with a table and without. Assumes nothing.
+use Rattle.std.proofs.Common.{ap, ◌∙◌}
 use Rattle.spec_shelf.specs.Meaning.{with_table, state_after, rows_for}
 use Rattle.shelf_offer.proofs.answer_offer.Goals as goal
+use Rattle.shelf_offer.proofs.answer_offer.Goals.{in-Some, in-None}
 
-pub returns-then-not-ready : goal.returns-then-not-ready
-unfolding state_after rows_for
-returns-then-not-ready c =
-    let all : length c.args.t.entries ≡ 32 = omega arith in
-    rw (c.if-not-ready.true, c.nothing_put.ensures) (none_put c.args.t _ _ (omega arith), c.stream_row-next.ensures)
+pub offer_to-number-requires : goal.offer_to-number-requires
+offer_to-number-requires c = c.requires.ready _ c.in-Some.is
 
-pub decide-d-requires : goal.decide-d-requires
-decide-d-requires c = c.requires.ready c.if-not-ready.false
+pub returns-clause-state : goal.returns-clause-state
+unfolding state_after
+returns-clause-state c =
+    elim c.match-table.branch [
+      | in-Some w ↦ rw w.in-Some.is (w.table-is ∙ ap with_table w.offer_to-number.ensures.1)
+      | in-None w ↦ rw w.in-None.is (w.table-is ∙ w.in-None.is)
+    ]
 
-pub returns : goal.returns
-unfolding state_after rows_for
-returns c =
-    let q = c.offer_number-number.ensures ∙ c.decide-d.ensures.0 in
-    rw (c.if-not-ready.false, sym q) (ap with_table c.decide-d.ensures.1, c.stream_row-next-2.ensures)
+pub returns-clause-rows : goal.returns-clause-rows
+unfolding rows_for
+returns-clause-rows c =
+    elim c.match-table.branch [
+      | in-Some w ↦ rw (w.in-Some.is, ← w.offer_to-number.ensures.0, ← w.number-is) c.stream_row.ensures
+      | in-None w ↦ rw (w.in-None.is, ← w.number-is) c.stream_row.ensures
+    ]

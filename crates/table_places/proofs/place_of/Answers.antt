@@ -1,30 +1,22 @@
-use Rattle.std.proofs.Common.{◌≡◌, ◌<◌, ◌≤◌, length, arith, get_or, sym, ◌∙◌}
-use Rattle.base_lists.specs.First.{first_found, first_passed, first_ended}
+use Rattle.std.proofs.Common.{◌≡◌, ◌≤◌, length, get_or, arith, sym, ◌∙◌}
+use Rattle.base_lists.specs.First.{first_found, first_passed}
 use Rattle.spec_model.specs.Entries.{free_entry}
-use Rattle.table_places.specs.Search.{is_held_as, held_by_name, place_nobody}
+use Rattle.table_places.specs.Search.{is_held_as, eq_held, found_inside, found_past, place_nobody}
 use Rattle.table_places.proofs.place_of.Goals as goal
 
 pub returns-then-is_nobody : goal.returns-then-is_nobody
 returns-then-is_nobody c =
-    let all : length c.args.t.entries ≡ 32 = omega arith in
-    omega (arith, place_nobody c.args.name (sym c.is_nobody.ensures ∙ c.if-is_nobody.true) c.args.t.entries)
+    let none = place_nobody c.args.name (sym c.is_nobody.ensures ∙ c.if-is_nobody.true) c.args.entries.now in found_past (omega arith)
 
-pub returns-then-same : goal.returns-then-same
-returns-then-same c =
-    let h : c.loop-place.place < length c.args.t.entries = omega arith in
-    let e = get_or c.args.t.entries c.loop-place.place free_entry in
-    let named = c.same.ensures ∙ sym (held_by_name c.args.name (sym c.is_nobody.ensures ∙ c.if-is_nobody.false) e) in
-    first_found (is_held_as c.args.name) _ _ c.loop-place.invariant.1 free_entry h named c.if-same.true
+pub returns-then-eq : goal.returns-then-eq
+returns-then-eq c =
+    let e = get_or c.args.entries.now c.loop-place.place free_entry in
+    let held = c.eq.ensures ∙ eq_held c.args.name (sym c.is_nobody.ensures ∙ c.if-is_nobody.false) e in
+    found_inside (first_found (is_held_as c.args.name) _ _ c.loop-place.invariant.1 free_entry c.loop-place-test.true held c.if-eq.true)
+    c.loop-place-test.true
 
 pub loop-place-preserved : goal.loop-place-preserved
 loop-place-preserved c =
-    let h : c.loop-place.place < length c.args.t.entries = omega arith in
-    let e = get_or c.args.t.entries c.loop-place.place free_entry in
-    let named = c.same.ensures ∙ sym (held_by_name c.args.name (sym c.is_nobody.ensures ∙ c.if-is_nobody.false) e) in
-    (omega arith, first_passed (is_held_as c.args.name) _ _ c.loop-place.invariant.1 free_entry h named c.if-same.false)
-
-pub returns : goal.returns
-returns c =
-    let h : length c.args.t.entries ≤ c.loop-place.place = omega arith in
-    let e = first_ended (is_held_as c.args.name) _ _ c.loop-place.invariant.1 h in
-    omega arith
+    let e = get_or c.args.entries.now c.loop-place.place free_entry in
+    let held = c.eq.ensures ∙ eq_held c.args.name (sym c.is_nobody.ensures ∙ c.if-is_nobody.false) e in
+    (omega arith, first_passed (is_held_as c.args.name) _ _ c.loop-place.invariant.1 free_entry c.loop-place-test.true held c.if-eq.false)

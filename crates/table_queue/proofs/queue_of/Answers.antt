@@ -6,6 +6,9 @@ use Rattle.table_queue.proofs.queue_of.Goals.{then-not-is_nobody, else-not-is_no
 pub loop-i-init : goal.loop-i-init
 loop-i-init c = making_none c.args.t (omega arith) c.requires
 
+pub claim_of-requires : goal.claim_of-requires
+claim_of-requires c = ap not (sym c.is_nobody.ensures ∙ c.if-not-is_nobody.true)
+
 pub overflow_add-load : goal.overflow_add-load
 overflow_add-load c =
     let m = c.loop-i.invariant in
@@ -17,10 +20,9 @@ loop-i-preserved c =
     let all : length t.entries ≡ 32 = omega arith in
     let h = c.loop-i-test.true in
     elim c.if-not-is_nobody.branch [
-      | then-not-is_nobody w ↦ rw (w.used-is, w.load-is, w.ranks-is, w.owed-is, w.limits-is, w.jobs-is)
-          (making_more t all c.requires c.loop-i.invariant h (ap not (sym c.is_nobody.ensures ∙ w.if-not-is_nobody.true)) w.load_of-load.ensures w.rank.ensures
-          w.owed_of.ensures w.limit_of.ensures w.job_count.ensures)
-      | else-not-is_nobody w ↦ rw (w.used-is, w.load-is, w.ranks-is, w.owed-is, w.limits-is, w.jobs-is)
+      | then-not-is_nobody w ↦ rw (w.used-is, w.load-is, w.claims-is)
+          (making_more t all c.requires c.loop-i.invariant h w.load_of-load.ensures w.claim_of.ensures)
+      | else-not-is_nobody w ↦ rw (w.used-is, w.load-is, w.claims-is)
           (making_same t all c.requires c.loop-i.invariant h (ap not (sym c.is_nobody.ensures ∙ w.if-not-is_nobody.false)))
     ]
 

@@ -39,4 +39,4 @@ loop-i-preserved c =
 pub returns : goal.returns
 returns c =
     let v = c.loop-i.invariant in
-    passed_all c.args.t v.0 (past c.args.t (omega arith) c.loop-i-test.false) v.1
+    passed_all c.args.t (omega arith) (past c.args.t (omega arith) c.loop-i-test.false) v.1

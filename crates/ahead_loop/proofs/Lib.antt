@@ -1,0 +1,2 @@
+mod Turn
+mod Beginning
