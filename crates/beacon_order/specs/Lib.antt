@@ -3,4 +3,5 @@ pub mod Filled
 pub mod Sorts
 pub mod Listed
 pub mod Keys
+pub mod Inserted
 pub mod Filling

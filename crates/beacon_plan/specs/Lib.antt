@@ -2,10 +2,13 @@ pub mod Rows
 pub mod Skipped
 pub mod RowLaws
 pub mod Needs
+pub mod NeedRows
 pub mod Heads
 pub mod Places
+pub mod Kept
 pub mod Progress
 pub mod Next
 pub mod Turns
 pub mod Pending
 pub mod Steps
+pub mod Chosen

@@ -41,7 +41,7 @@ pub record Few (rs : List JobRow) : Type 0 where
   pub rows : length rs ≤ places
   pub jobs : All (λ r. r.count ≤ 16) rs
 
-length_row : (j v : ℕ) → j ≤ 16 → length (needs_row j v) ≡ 16
+pub length_row : (j v : ℕ) → j ≤ 16 → length (needs_row j v) ≡ 16
 length_row j v h =
     length-append (replicate j v) (replicate (16 - j) 0)
     ∙ omega (arith, length-replicate {A = ℕ} j v, length-replicate {A = ℕ} (16 - j) 0)

@@ -1,7 +1,7 @@
 -- The next release: no job is released between t and it; it is ahead, and at most the end of the interval. Assumes nothing.
 use Rattle.std.specs.Prelude.{◌≡◌, refl, ◌⊎◌, List, [], ◌∷◌, ℕ, ◌+◌, ◌*◌, ◌/◌, ◌≤◌, ◌<◌, min, length, get_or, drop}
-use Rattle.std.proofs.Common.{◌∙◌, inl, inr, le_trans, add-mul, one-mul, mul-le-mul_right, div-mul-le_self, add-one, arith, drop-cons}
-use Rattle.std.proofs.Math.Nat.{lt-div-mul-add, div-eq_of_lt-le}
+use Rattle.std.proofs.Common.{ap, ◌∙◌, inl, inr, le_trans, add-mul, one-mul, mul-le-mul_right, div-mul-le_self, add-one, arith, drop-cons}
+use Rattle.std.proofs.Math.Nat.{lt-div-mul-add, div-eq_of_lt, div-eq_of_lt-le}
 use Rattle.std.proofs.Math.Decide.{dec_le}
 use Rattle.spec_lists.specs.All.{All, stop, and}
 use Rattle.base_lists.specs.All.{all_map}
@@ -81,3 +81,14 @@ pub next_step : (b t i n : ℕ) (Ts : List ℕ) → i < length Ts
     → min n (next_of b t (drop i Ts)) ≡ min (min n (after (get_or Ts i 0) t)) (next_of b t (drop (i + 1) Ts))
 unfolding next_of
 next_step b t i n Ts h = rw (add-one i, drop-cons Ts i 0 h) (omega arith)
+
+-- rows as long as the interval have no release before the end
+next_spare : (b t : ℕ) {Ts : List ℕ} → t < b → All (λ T. T ≡ b) Ts → next_of b t Ts ≡ b
+unfolding next_of
+next_spare b t h stop = refl
+next_spare b t h (and {x = T} e q) =
+    let l : b ≤ after b t = rw (div-eq_of_lt h) (omega arith) in
+    omega (arith, ap (λ U. after U t) e, next_spare b t h q)
+
+pub next_end : (b t i n : ℕ) (Ts : List ℕ) → t < b → All (λ T. T ≡ b) (drop i Ts) → n ≤ b → min n (next_of b t (drop i Ts)) ≡ n
+next_end b t i n Ts h q k = omega (arith, next_spare b t h q)

@@ -1,10 +1,11 @@
 -- The choice among the rows, by place: of the rows' first unfinished jobs that are released, the first of those due first.
 -- It is the choice among all jobs. Assumes nothing.
-use Rattle.std.specs.Prelude.{◌≡◌, refl, Bool, true, false, cond, List, [], ◌∷◌, ◌++◌, map, ℕ, suc, ◌+◌, ◌*◌, ◌≤◌, ◌<◌, leb, ltb, length, get_or}
-use Rattle.std.proofs.Common.{sym, ap, subst, ◌∙◌, add-zero, zero-add, suc-add, add-suc, suc-mul, mul-le-mul, arith, lt-ltb, le-ltb, le-leb, leb-true, leb-false, ltb-true, ltb-false}
+use Rattle.std.specs.Prelude.{◌≡◌, refl, Bool, true, false, cond, List, [], ◌∷◌, ◌++◌, map, ℕ, suc, ◌+◌, ◌*◌, ◌≤◌, ◌<◌, leb, ltb, length, get_or, drop}
+use Rattle.std.proofs.Common.{sym, ap, subst, ◌∙◌, add-zero, zero-add, suc-add, add-suc, suc-mul, mul-le-mul, add-one, arith, lt-ltb, le-ltb, le-leb, leb-true, leb-false, ltb-true, ltb-false}
 use Rattle.std.proofs.Math.Option.{Option, none, some}
+use Rattle.std.proofs.Math.Seq.{drop-cons}
 use Rattle.std.proofs.lemmas.Bool.{lt-leb}
-use Rattle.spec_lists.specs.All.{All}
+use Rattle.spec_lists.specs.All.{All, stop, and}
 use Rattle.base_lists.specs.All.{head, tail, all_map}
 use Rattle.spec_rules.specs.Slots.{Job, job_at, is_ready, due_first, choose}
 use Rattle.law_model.specs.Frames.{most_slots}
@@ -165,3 +166,34 @@ pub place_chosen : (t : ℕ) (ss : List Name) (Ts : List ℕ) (nss : List (List 
 place_chosen t ss Ts nss u v r w l f =
     places_choose (head_in ss Ts nss) t 0 ss Ts nss nobody u v (omega arith) w l f
     (λ k. ap (head_in ss Ts nss) (zero-add k))
+
+-- ---- one row at a time, whose job is due at x
+module _ (t i p d x : ℕ) (Ts rs : List ℕ) (h : i < length Ts) (k : i < length rs) (e : due_by t (get_or Ts i 0) (get_or rs i 0) ≡ x) where
+  place_step : place_from t i p d (drop i Ts) (drop i rs)
+      ≡ place_from t (i + 1) (cond (ltb x d) i p) (cond (ltb x d) x d) (drop (i + 1) Ts) (drop (i + 1) rs)
+  unfolding place_from
+  place_step =
+      rw (add-one i, drop-cons Ts i 0 h, drop-cons rs i 0 k)
+      (ap (λ y. place_from t (suc i) (cond (ltb y d) i p) (cond (ltb y d) y d) (drop (suc i) Ts) (drop (suc i) rs)) e)
+
+  pub place_better : x < d
+      → place_from t i p d (drop i Ts) (drop i rs) ≡ place_from t (i + 1) i x (drop (i + 1) Ts) (drop (i + 1) rs)
+  place_better q = rw (lt-ltb x d q) at place_step
+
+  pub place_kept : d ≤ x
+      → place_from t i p d (drop i Ts) (drop i rs) ≡ place_from t (i + 1) p d (drop (i + 1) Ts) (drop (i + 1) rs)
+  place_kept q = rw (le-ltb x d q) at place_step
+
+pub due_soon : (t T r : ℕ) → r ≤ t → due_by t T r ≡ r + T
+due_soon t T r h = rw (le-leb r t h)
+
+pub due_never : (t T r : ℕ) → t < r → due_by t T r ≡ no_release
+due_never t T r h = rw (lt-leb r t h)
+
+-- rows that have no job left change nothing
+pub place_end : (t i p d : ℕ) (Ts : List ℕ) {rs : List ℕ} → t < no_release → d ≤ no_release → All (λ r. r ≡ no_release) rs
+    → place_from t i p d Ts rs ≡ p
+unfolding place_from
+place_end t i p d [] h l q = refl
+place_end t i p d (T ∷ Ts) h l stop = refl
+place_end t i p d (T ∷ Ts) h l (and e q) = rw (e, lt-leb no_release t h, le-ltb no_release d l) (place_end t (suc i) p d Ts h l q)

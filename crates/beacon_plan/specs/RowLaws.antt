@@ -1,6 +1,6 @@
 -- Laws of rows: a fact of all jobs by their lengths; a change of one need changes one job; rows of 16 jobs have few records;
 -- and rows have the plan of any jobs that they are but for some that need nothing. Assumes nothing.
-use Rattle.std.specs.Prelude.{◌≡◌, refl, List, [], ◌∷◌, ◌++◌, ℕ, zero, suc, ◌+◌, ◌*◌, ◌-◌, ◌≤◌, ◌<◌, ltb, length, get_or, set, replicate}
+use Rattle.std.specs.Prelude.{◌≡◌, refl, List, [], ◌∷◌, ◌++◌, ℕ, zero, suc, ◌+◌, ◌*◌, ◌-◌, ◌≤◌, ◌<◌, ltb, length, get_or, set, drop, replicate}
 use Rattle.std.proofs.Common.{sym, ap, subst, ◌∙◌, zero-le, le_refl, arith, length-set, le-ltb}
 use Rattle.spec_lists.specs.Lists.{keep, sum_of}
 use Rattle.base_lists.specs.Tests.{one_if_most, one_if_false}
@@ -125,6 +125,25 @@ plan_few {b} h {ss} {Ts} {nss} r l w =
       sum_keep_le (to_come 0) unfinished js,
       rows_come ss Ts nss w,
     )
+
+-- ---- rows that need nothing
+needs_none : {nss : List (List ℕ)} → All (λ ns. ns ≡ replicate 16 0) nss → (i j : ℕ) → need_at nss i j ≤ 0
+needs_none stop i j = zero-le
+needs_none (and e q) zero j = omega (arith, ap (λ ns. get_or ns j 0) e, get_d_zeros 16 j)
+  where
+    get_d_zeros : (n j : ℕ) → get_or (replicate n 0) j 0 ≤ 0
+    get_d_zeros zero j = zero-le
+    get_d_zeros (suc n) zero = zero-le
+    get_d_zeros (suc n) (suc j) = get_d_zeros n j
+needs_none (and e q) (suc i) j = needs_none q i j
+
+-- where the rows from one on need nothing, a row that needs something stands before it, so its change changes none of them
+pub spare_set : (rows : ℕ) (nss : List (List ℕ)) (i j : ℕ) (ns : List ℕ) → 1 ≤ need_at nss i j
+    → All (λ ms. ms ≡ replicate 16 0) (drop rows nss) → All (λ ms. ms ≡ replicate 16 0) (drop rows (set nss i ns))
+spare_set zero nss i j ns h q = absurd (omega (arith, needs_none q i j))
+spare_set (suc r) [] i j ns h q = stop
+spare_set (suc r) (ms ∷ nss) zero j ns h q = q
+spare_set (suc r) (ms ∷ nss) (suc i) j ns h q = spare_set r nss i j ns h q
 
 -- a row that needs something is one of them
 pub in_rows : (nss : List (List ℕ)) (i j : ℕ) → 1 ≤ need_at nss i j → i < length nss

@@ -1,6 +1,6 @@
 -- Rows of jobs, one row for each request of an interval, in the order of the tie rules: their jobs, and the plan of these by steps D
 -- and E. What is asked of rows. Assumes nothing.
-use Rattle.std.specs.Prelude.{Bool, List, [], ◌∷◌, ◌++◌, ℕ, suc, ◌*◌, ◌-◌, ◌≤◌, ltb}
+use Rattle.std.specs.Prelude.{◌≡◌, Bool, List, [], ◌∷◌, ◌++◌, ℕ, suc, ◌*◌, ◌-◌, ◌≤◌, ltb, length, drop, replicate}
 use Rattle.spec_lists.specs.Lists.{keep}
 use Rattle.spec_lists.specs.All.{All}
 use Rattle.spec_rules.specs.Slots.{Job, job_at, slots_from, Run, runs_from}
@@ -44,3 +44,12 @@ pub record Rows (b : ℕ) (ns : List Name) (lengths : List ℕ) (needs : List (L
   pub short : b ≤ most_slots
   pub each : All (Length b) lengths
   pub names : Keys (keep unfinished (row_jobs ns lengths needs))
+
+-- an array with an element for each of as many rows as there are places, which is d from `rows` on
+abbrev pub Padded : {A : Type 0} (rows : ℕ) (d : A) → List A → Type 0
+Padded rows d xs = (length xs ≡ places) × ((rows ≤ places) × All (λ x. x ≡ d) (drop rows xs))
+
+-- every row from `rows` on has jobs as long as the interval, which need nothing
+pub record Spare (b rows : ℕ) (Ts : List ℕ) (nss : List (List ℕ)) : Type 0 where
+  pub lengths : All (λ T. T ≡ b) (drop rows Ts)
+  pub needs : All (λ ns. ns ≡ replicate 16 0) (drop rows nss)

@@ -208,6 +208,22 @@ fn write_runs(f: Frame, rows: &[JobRow], progress: &mut [Progress], plan: &mut [
     pen.put(plan)
 }
 
+// The same, before any job has run.
+fn write_from(f: Frame, rows: &[JobRow], progress: &mut [Progress], plan: &mut [u32]) -> usize
+    requires rows { Rows (slots_in f) (names_of rows.now) (lengths_of rows.now) (needs_of rows.now)
+        × ((plan_words ≤ length plan.old) × (header_in f ≤ slots_in f)) }
+    requires few { Few rows.now × (length progress.old ≡ length rows.now) }
+    ensures { let runs = row_plan (slots_in f) (header_in f) (names_of rows.now) (lengths_of rows.now) (needs_of rows.now) in
+        (result ≡ length runs) × ((result ≤ most_records) × (plan.new ≡ words_of runs ++ drop (record_words * result) plan.old)) }
+{
+    begin_rows(rows, progress);
+    write_runs(f, rows, progress, plan)
+}
+
+// As many rows take an array of their own: that of all places has 2,560 bytes, and clearing it would cost a beacon beside few requests more
+// than all its jobs.
+const FEW_ROWS: usize = 8;
+
 // The records of the plan of rows in the first words, and how many there are. Every later word stays as it was. The first slot that is given
 // is the one after the header. What the jobs still need is made here, where it is used up.
 pub fn write_plan(f: Frame, rows: &[JobRow], plan: &mut [u32]) -> usize
@@ -217,8 +233,10 @@ pub fn write_plan(f: Frame, rows: &[JobRow], plan: &mut [u32]) -> usize
     ensures { let runs = row_plan (slots_in f) (header_in f) (names_of rows.now) (lengths_of rows.now) (needs_of rows.now) in
         (result ≡ length runs) × ((result ≤ most_records) × (plan.new ≡ words_of runs ++ drop (record_words * result) plan.old)) }
 {
+    if rows.len() <= FEW_ROWS {
+        let mut few = [Progress::NONE; FEW_ROWS];
+        return write_from(f, rows, &mut few[..rows.len()], plan);
+    }
     let mut all = [Progress::NONE; spec_model::PLACES];
-    let progress = &mut all[..rows.len()];
-    begin_rows(rows, progress);
-    write_runs(f, rows, progress, plan)
+    write_from(f, rows, &mut all[..rows.len()], plan)
 }

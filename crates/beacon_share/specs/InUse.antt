@@ -151,7 +151,7 @@ module _ {q : Queue} (b : Bounded q) (size : length q.claims ≡ places) where
       ∙ spare_sum 0 (λ v. v) refl q.used (zip f (ranks_in cs) (owed_in cs))
       (zip_spare f (λ k. cond_zero (ltb k r)) q.used (ranks_in cs) (owed_in cs) b.owed)
 
-  pieces_same : (E : ℕ) → numbers (pieces_by E us) ≡ pieces_of E (ranks_in cs) (owed_in cs)
+  pub pieces_same : (E : ℕ) → numbers (pieces_by E us) ≡ pieces_of E (ranks_in cs) (owed_in cs)
   pieces_same E =
       let all = pieces_of E (ranks_in cs) (owed_in cs) in
       let some : pieces_of E (ranks_in us) (owed_in us) ≡ take q.used all =

@@ -65,7 +65,7 @@ fn piece_of(own: &Claim, claims: &[Claim], capacity: Slots) -> Slots
     Slots(own.owed.0.min(rest.0))
 }
 
-// For a tidy table's claims these are the slots of step B, place by place: Queues.pieces_right.
+// For a tidy table's claims these are the slots of step B, place by place: InUse.pieces_same, Queues.pieces_right.
 fn pieces(claims: &[Claim], capacity: Slots) -> [Slots; 32]
     requires { length claims.now ≤ places }
     ensures { result ≡ pieces_by capacity.0 claims.now }

@@ -2,7 +2,7 @@
 use Rattle.std.proofs.Math.Path.{◌≡◌, refl, ap}
 use Rattle.std.proofs.Common.{sym, ◌∙◌, arith}
 use Rattle.std.proofs.Math.Logic.{inl, inr}
-use Rattle.std.specs.Prelude.{Bool, not, [], ◌∷◌, ℕ, ◌≤◌, ◌<◌, ltb, length, get_or, Option, None, Some}
+use Rattle.std.specs.Prelude.{Bool, not, [], ◌∷◌, ℕ, ◌≤◌, ◌<◌, ltb, length, get_or, Option, None, Some, IfOk}
 use Rattle.std.proofs.Math.Bool.{true, false, cond}
 use borrow.Author.Tests.{lt-ltb, le-ltb, ltb-true, ltb-false}
 use Rattle.std.proofs.lemmas.Option.{cond_some}
@@ -31,7 +31,7 @@ module _ (t : Table) (w : WellFormed t) (n : Name) where
     held_place : ltb p places ≡ holds t n
     held_place = ap (ltb p) (sym w.tidy.size) ∙ ap (λ k. ltb k (length t.entries)) e ∙ place_held t n
 
-    held_answer_lem : {a : ℕ} → a ≡ cond (ltb p places) 0 20 → a ≡ held_answer t n
+    pub held_answer_lem : {a : ℕ} → a ≡ cond (ltb p places) 0 20 → a ≡ held_answer t n
     unfolding held_answer refusal
     held_answer_lem h = h ∙ ap (λ b. cond b 0 20) held_place ∙ by (holds t n)
       where
@@ -39,13 +39,19 @@ module _ (t : Table) (w : WellFormed t) (n : Name) where
         by true = refl
         by false = refl
 
-    held_freed : put_in t p free_entry ≡ withdrawn t n
+    pub held_freed : put_in t p free_entry ≡ withdrawn t n
     unfolding withdrawn
     held_freed =
         elim (either (holds t n)) [
           | inl q ↦ rw (q, e) (ap (with_entries t) (place_freed t n w.tidy.once q))
           | inr q ↦ rw q (put_past t p free_entry (omega (arith, w.tidy.size, ltb-false p places (held_place ∙ q))))
         ]
+
+    pub held_entry : (d : Entry) → p < places → get_or t.entries p d ≡ enquired t n
+    held_entry d h = ap (λ k. get_or t.entries k d) e ∙ place_entry n d t.entries (omega (arith, w.tidy.size))
+
+    pub none_entry : places ≤ p → free_entry ≡ enquired t n
+    none_entry h = place_none n t.entries (omega (arith, w.tidy.size))
 
   -- o is what the search gives: a place among those of a table that has the name's entry, or none
   module _ {o : Option ℕ} (e : o ≡ place_of n t.entries) where
@@ -87,3 +93,11 @@ module _ (t : Table) (w : WellFormed t) (n : Name) where
             × (put_in t (result_unwrap_or (ok_or r NotHeld) no_place) free_entry ≡ withdrawn t n)
         by (Some p) h = let k = (some_held h).1 in (k.0, k.1.0)
         by None h = let k = none_held h in (k.0, k.1.0)
+
+    -- and that place is one of the table
+    pub released_inside : IfOk (ok_or o NotHeld) (λ p. p < places)
+    released_inside = by o refl
+      where
+        by : (r : Option ℕ) → o ≡ r → IfOk (ok_or r NotHeld) (λ p. p < places)
+        by (Some p) h = (some_held h).0
+        by None h = tt

@@ -1,12 +1,12 @@
 // Withdrawals and enquiries: document 01, "Where each refusal is checked", `withdraw` and `enquire`. Both go by the place of a name.
 #![tactic(auto)]
 
-ghost use Rattle.std.specs.Prelude.{◌≡◌};
+ghost use Rattle.std.specs.Prelude.{◌≡◌, ◌<◌, IfOk};
 ghost use Rattle.std.specs.Result.{result_unwrap_or};
 ghost use Rattle.spec_model.specs.Answers.{answered};
 ghost use Rattle.spec_model.specs.Entries.{free_entry};
 ghost use Rattle.spec_model.specs.Numbers.{held_number};
-ghost use Rattle.spec_model.specs.Tables.{no_place, put_in};
+ghost use Rattle.spec_model.specs.Tables.{places, no_place, put_in};
 ghost use Rattle.spec_rules.specs.Calls.{held_answer, withdrawn};
 ghost use Rattle.spec_rules.specs.Reading.{enquired};
 ghost use Rattle.spec_rules.specs.WellFormed.{WellFormed};
@@ -17,8 +17,9 @@ use spec_model::{Entry, HeldRefusal, Name, Table};
 // The place that becomes free. Refused, there is none.
 pub fn release(t: Table, name: Name) -> Result<usize, HeldRefusal>
     requires { WellFormed t }
-    ensures { (answered held_number result ≡ held_answer t name)
+    ensures is { (answered held_number result ≡ held_answer t name)
         × (put_in t (result_unwrap_or result no_place) free_entry ≡ withdrawn t name) }
+    ensures place { IfOk result (λ p. p < places) }
 {
     let place = table_places::place_of(&t.entries, name);
     place.ok_or(HeldRefusal::NotHeld)

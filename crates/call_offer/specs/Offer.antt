@@ -80,7 +80,7 @@ module _ (t : Table) (w : WellFormed t) (q : Request) {o : Option ℕ} (e : o �
 
 -- refused, an offer puts nothing in the table
 module _ (t : Table) (w : WellFormed t) (q : Request) where
-  nothing_put : offer_answer t q ≢ 0 → put_in t no_place free_entry ≡ offered t q
+  pub nothing_put : offer_answer t q ≢ 0 → put_in t no_place free_entry ≡ offered t q
   nothing_put h = put_past t no_place free_entry (omega (arith, w.tidy.size)) ∙ sym (refused_offer t q h)
 
   pub outside_answer : name_in_range q.name ≡ false → (10 ≡ offer_answer t q) × (put_in t no_place free_entry ≡ offered t q)
@@ -128,13 +128,13 @@ checked {t} {q} {p = p} w s r f e =
     }
 
 module _ {t : Table} (w : WellFormed t) {q : Request} {p : ℕ} {x : Entry} (known : Checked t q p x) where
-  request_tidy : Tidy (with_request t q)
+  pub request_tidy : Tidy (with_request t q)
   request_tidy = placed_tidy t w q known.none
 
   ahead : {b : Bool} → b ≡ fits_ahead t.frame (held_of (with_request t q)) → has_time t q ≡ b
   ahead e = sym (e ∙ placed_ahead t w q known.none)
 
-  fits_answer : {b : Bool} → b ≡ fits_ahead t.frame (held_of (with_request t q)) → b ≡ true
+  pub fits_answer : {b : Bool} → b ≡ fits_ahead t.frame (held_of (with_request t q)) → b ≡ true
       → (0 ≡ offer_answer t q) × (with_request t q ≡ offered t q)
   unfolding offered
   fits_answer e k =
@@ -142,7 +142,7 @@ module _ {t : Table} (w : WellFormed t) {q : Request} {p : ℕ} {x : Entry} (kno
       (sym z, sym (ap (λ b. cond b (with_request t q) t) (eq-eqb (offer_answer t q) 0 z)))
 
   -- where an even share is enough, with the request too, looking ahead, but for the header test, says yes
-  fits_evenly : {b : Bool} {n : ℕ} {e : Entry} → n ≡ sum_of even_need t.entries → e ≡ entry_of q
+  pub fits_evenly : {b : Bool} {n : ℕ} {e : Entry} → n ≡ sum_of even_need t.entries → e ≡ entry_of q
       → b ≡ leb (n + even_need e) (room_in t.frame) → b ≡ true → true ≡ keeps_up_ahead t.frame (held_of (with_request t q))
   unfolding even_need load
   fits_evenly {b} {n} {e} p i h k =
@@ -164,17 +164,17 @@ module _ {t : Table} (w : WellFormed t) {q : Request} {p : ℕ} {x : Entry} (kno
   abbrev placed_entries : List Entry
   placed_entries = held_of (with_request t q)
 
-  test_fails : header_test t.frame asks placed_entries ≡ false → false ≡ fits_ahead t.frame placed_entries
+  pub test_fails : header_test t.frame asks placed_entries ≡ false → false ≡ fits_ahead t.frame placed_entries
   test_fails z =
       sym (ahead_once t.frame placed_entries (tidy_together request_tidy) ∙ ap (λ b. b && keeps_up_ahead t.frame placed_entries) z)
 
-  rest_says : {b : Bool} → (header_in t.frame ≡ 0) ⊎ (header_test t.frame asks placed_entries ≡ true)
+  pub rest_says : {b : Bool} → (header_in t.frame ≡ 0) ⊎ (header_test t.frame asks placed_entries ≡ true)
       → b ≡ keeps_up_ahead t.frame placed_entries → b ≡ fits_ahead t.frame placed_entries
   rest_says (inl z) k = k ∙ sym (ahead_plain t.frame placed_entries z (tidy_some request_tidy) (tidy_together request_tidy))
   rest_says (inr z) k =
       k ∙ sym (ahead_once t.frame placed_entries (tidy_together request_tidy) ∙ ap (λ b. b && keeps_up_ahead t.frame placed_entries) z)
 
-  no_time : {b : Bool} → b ≡ fits_ahead t.frame (held_of (with_request t q)) → b ≡ false
+  pub no_time : {b : Bool} → b ≡ fits_ahead t.frame (held_of (with_request t q)) → b ≡ false
       → (17 ≡ offer_answer t q) × (put_in t no_place free_entry ≡ offered t q)
   no_time e k =
       let z : offer_answer t q ≡ 17 = offer_passed t q known.none ∙ ap (λ (b : Bool). cond (not b) 17 0) (ahead e ∙ k) in

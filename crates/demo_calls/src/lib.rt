@@ -6,19 +6,22 @@
 
 ghost use Rattle.std.specs.Prelude.{◌≡◌, ◌-◌, ◌/◌, length, fold, IfOk};
 ghost use Rattle.std.specs.Result.{result_unwrap_or};
-ghost use Rattle.spec_rules.specs.Calls.{offered, withdrawn, beacon};
+ghost use Rattle.spec_rules.specs.Calls.{offered, held_answer, withdrawn, beacon};
 ghost use Rattle.spec_rules.specs.Reading.{enquired, window_answer, window_part};
 ghost use Rattle.spec_rules.specs.Records.{record_words};
 ghost use Rattle.spec_rules.specs.Settings.{open_answer, Succeeds, opened};
 ghost use Rattle.spec_model.specs.Answers.{answered};
-ghost use Rattle.spec_model.specs.Numbers.{open_number, window_number};
+ghost use Rattle.spec_model.specs.Entries.{free_entry};
+ghost use Rattle.spec_model.specs.Numbers.{open_number, held_number, beacon_number, window_number};
 ghost use Rattle.spec_model.specs.ByNumbers.{stream as named, request};
 ghost use Rattle.demo_calls.specs.Asked.{asked_each};
 
 mod planner; // planner.rt: a planner, whose table is well formed, and the calls on it
 
 pub use planner::Planner;
-use spec_model::{Entry, Name, OpenRefusal, Request, Setting, Slots, WindowRefusal};
+use spec_model::{
+    BeaconRefusal, Entry, HeldRefusal, Name, OpenRefusal, Request, Setting, Slots, WindowRefusal,
+};
 
 // What an offer asks, by its fields in their order.
 pub fn request(stream: u32, kind: u32, period: u32, min: u32, max: u32, life: u32) -> Request
@@ -137,34 +140,35 @@ impl Planner {
     }
 
     // The entry that is shown: refused, the free one.
-    pub fn show_enquire(&self, rt: &impl Print, stream: u32) -> Entry
-        ensures { result ≡ enquired self.now (named stream) }
+    pub fn show_enquire(&self, rt: &impl Print, stream: u32) -> Result<Entry, HeldRefusal>
+        ensures { let n = named stream in
+            (answered held_number result ≡ held_answer self.now n) × (result_unwrap_or result free_entry ≡ enquired self.now n) }
     {
         let found = self.enquire(stream);
         let answer = call_answers::answer_number(&found);
         let _ = println!(rt; "enquire,{stream},,,,{answer}");
-        let entry = found.unwrap_or(spec_model::free_entry());
-        entry_row(rt, entry);
-        entry
+        entry_row(rt, found.unwrap_or(spec_model::free_entry()));
+        found
     }
 
     // The answer alone, and how many records the plan has: none where the beacon is refused.
-    pub fn show_beacon(&mut self, rt: &impl Print, plan: &mut [u32]) -> usize
+    pub fn show_beacon(&mut self, rt: &impl Print, plan: &mut [u32]) -> Result<usize, BeaconRefusal>
         ensures { let b = beacon self.old plan.old in
-            (result ≡ b.count) × ((self.new ≡ b.table) × (plan.new ≡ b.words)) }
+            (answered beacon_number result ≡ b.answer) × ((result_unwrap_or result 0 ≡ b.count)
+            × ((self.new ≡ b.table) × (plan.new ≡ b.words))) }
     {
         let sent = self.beacon(plan);
         let answer = call_answers::answer_number(&sent);
         let _ = println!(rt; "beacon,,,,,{answer}");
-        sent.unwrap_or(0)
+        sent
     }
 
     // The answer, and every record of the plan.
     pub fn show_plan(&mut self, rt: &impl Print, plan: &mut [u32])
         ensures { let b = beacon self.old plan.old in (self.new ≡ b.table) × (plan.new ≡ b.words) }
     {
-        let count = self.show_beacon(rt, plan);
-        slot_rows(rt, plan, count);
+        let sent = self.show_beacon(rt, plan);
+        slot_rows(rt, plan, sent.unwrap_or(0));
     }
 }
 

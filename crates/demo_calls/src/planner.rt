@@ -44,6 +44,15 @@ impl Planner {
         Planner { table }
     }
 
+    // The table, for any call.
+    pub fn table(&self) -> Table
+        ensures is { result ≡ self.now }
+        ensures formed { WellFormed result }
+    {
+        let Planner { table } = self;
+        *table
+    }
+
     #[tactic(auto, using(law_ahead::proofs::Formed::opened_formed))]
     pub fn open(s: Setting) -> Result<Planner, OpenRefusal>
         ensures answer { answered open_number result ≡ open_answer s }

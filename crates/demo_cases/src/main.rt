@@ -92,7 +92,7 @@ fn case_9(rt: &impl Print) {
     let _ = println!(rt; "case 9");
     let mut plan = [0u32; spec_model::PLAN_WORDS];
     let mut planner = offers_of_case_1(rt);
-    let count = planner.show_beacon(rt, &mut plan);
+    let count = planner.show_beacon(rt, &mut plan).unwrap_or(0);
     let windows = [
         (count, 100, 512),
         (count, 512, 512),
@@ -132,10 +132,10 @@ fn case_10(rt: &impl Print) {
     let _ = println!(rt; "case 10");
     let mut plan = [77777u32; spec_model::PLAN_WORDS];
     let mut planner = offers_of_case_1(rt);
-    planner.show_enquire(rt, 7);
+    let _ = planner.show_enquire(rt, 7);
     for lent in [spec_model::PLAN_WORDS - 1, spec_model::PLAN_WORDS] {
         case_10_lent(rt, &mut planner, lent, &mut plan);
-        planner.show_enquire(rt, 7);
+        let _ = planner.show_enquire(rt, 7);
     }
     let mut clear = [77777u32; spec_model::PLAN_WORDS];
     case_10_lent(rt, &mut opened(rt, 1), spec_model::PLAN_WORDS, &mut clear);

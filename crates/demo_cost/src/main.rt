@@ -21,7 +21,7 @@ fn full_table(rt: &impl Print, units: u32) -> Planner
 // A function of its own, since `make cost` counts what runs under its name.
 fn four_beacons(rt: &impl Print, mut planner: Planner, plan: &mut [u32]) {
     for _ in 0..4 {
-        planner.show_beacon(rt, plan);
+        let _ = planner.show_beacon(rt, plan);
     }
 }
 

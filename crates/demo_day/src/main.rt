@@ -16,7 +16,7 @@ fn leavers(rt: &impl Print, planner: &mut Planner, first: u32, end: u32) {
 // Intervals whose plans are not printed.
 fn intervals(rt: &impl Print, planner: &mut Planner, count: Intervals, plan: &mut [u32]) {
     for _ in 0..count.0 {
-        planner.show_beacon(rt, plan);
+        let _ = planner.show_beacon(rt, plan);
     }
 }
 
@@ -52,7 +52,7 @@ fn second_lesson(rt: &impl Print, planner: &mut Planner, plan: &mut [u32]) {
     planner.show_offer_each(rt, request(5, 2, 2, 20000, 60000, 4), 9);
     for _ in 0..2 {
         planner.show_plan(rt, plan);
-        planner.show_enquire(rt, 5);
+        let _ = planner.show_enquire(rt, 5);
     }
     intervals(rt, planner, Intervals(2), plan);
 }
@@ -80,7 +80,7 @@ fn third_lesson(rt: &impl Print, planner: &mut Planner, plan: &mut [u32]) {
         ],
     );
     planner.show_withdraw(rt, 13);
-    planner.show_enquire(rt, 13);
+    let _ = planner.show_enquire(rt, 13);
     planner.show_offer(rt, request(13, 2, 3, 30000, 30000, 3));
     planner.show_plan(rt, plan);
     planner.show_withdraw(rt, 12);
@@ -112,7 +112,7 @@ fn fifth_lesson(rt: &impl Print, planner: &mut Planner, plan: &mut [u32]) {
     planner.show_offer_each(rt, request(24, 2, 2, 102400, 102400, 4), 26);
     intervals(rt, planner, Intervals(1), plan);
     planner.show_withdraw(rt, 24);
-    planner.show_enquire(rt, 25);
+    let _ = planner.show_enquire(rt, 25);
     planner.show_offer(rt, request(26, 2, 1, 1, 1, 1));
     planner.show_offer(rt, request(26, 2, 3, 102400, 204800, 3));
     three_plans(rt, planner, plan);

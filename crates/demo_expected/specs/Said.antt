@@ -1,7 +1,7 @@
 -- What the theorem of the worked cases, `cases_right`, says of each of its lines, so that a program can cite the line that it runs; then
 -- openings, beacons and windows as those lines have them. Nothing is computed again but the plan of a table that holds nothing, which is
 -- in no list. Assumes nothing.
-use Rattle.std.specs.Prelude.{ℕ, zero, suc, ◌+◌, ◌*◌, ◌<◌, ◌≤◌, ◌≡◌, refl, Bool, true, false, cond, ◌&&◌, List, [], ◌∷◌, ◌++◌, eqb, ltb, length, take, drop}
+use Rattle.std.specs.Prelude.{ℕ, zero, suc, ◌+◌, ◌*◌, ◌<◌, ◌≤◌, ◌≡◌, refl, Bool, true, false, cond, ◌&&◌, List, [], ◌∷◌, ◌++◌, eqb, ltb, length, get_or, take, drop}
 use Rattle.std.specs.List.{fold}
 use Rattle.std.proofs.Common.{sym, ap, ◌∙◌, arith, length-take, take_at, lt-ltb, le-ltb, eqb-true}
 use Rattle.spec_lists.specs.Lists.{same_list}
@@ -19,7 +19,7 @@ use Rattle.spec_rules.specs.Cases.{State, Line, Tick, Window, reply, plays, star
 use Rattle.spec_rules.proofs.Cases.{cases_right}
 use Rattle.spec_rules.specs.Cases.{offers1, case1, cases23, case4, case5, case6, case7, case8, case9, ties_of_kind1}
 use Rattle.law_model.specs.Records.{length_words}
-use Rattle.spec_model.specs.ByNumbers.{setting}
+use Rattle.spec_model.specs.ByNumbers.{setting, request}
 use Rattle.demo_expected.specs.Windows.{answer_alone, part_alone}
 use Rattle.demo_expected.specs.Words.{rows, records_in, rows_all, row_count}
 
@@ -95,6 +95,28 @@ Answered t (q ∷ qs) = (offer_answer t q.0 ≡ q.1) × Answered (offered t q.0)
 -- the table after them
 abbrev pub after_offers : Table → List (Request × ℕ) → Table
 after_offers = fold (λ t q. offered t q.0)
+
+-- ---- two requests, each by its six fields, on a new table of one time unit
+abbrev pub asked : List ℕ → Request
+asked q = request (get_or q 0 0) (get_or q 1 0) (get_or q 2 0) (get_or q 3 0) (get_or q 4 0) (get_or q 5 0)
+
+abbrev one_held : List ℕ → Table
+one_held p = offered one_unit (asked p)
+
+abbrev pub two_held : (p q : List ℕ) → Table
+two_held p q = offered (one_held p) (asked q)
+
+-- both are taken, and the plan is these records
+pub record PlanOfTwo (p q : List ℕ) (rs : List (List ℕ)) : Type 0 where
+  pub first : offer_answer one_unit (asked p) ≡ 0
+  pub second : offer_answer (one_held p) (asked q) ≡ 0
+  pub plan : records_in (plan_of (two_held p q)) ≡ rs
+
+-- so both offers answer 0, and the table after them has that plan
+pub two_answered : {p q : List ℕ} {rs : List (List ℕ)} → PlanOfTwo p q rs
+    → (let qs : List (Request × ℕ) = (asked p, 0) ∷ (asked q, 0) ∷ [] in
+    Answered one_unit qs × (records_in (plan_of (after_offers one_unit qs)) ≡ rs))
+two_answered w = ((w.first, (w.second, tt)), w.plan)
 
 -- ---- a beacon
 -- where fewer words are lent

@@ -1,7 +1,7 @@
 // Cases 1 to 10 of document 01, "Tested by hand", and two of our own, on the proved calls and the proved window. Every answer, every record
 // count, every word of a plan and every word of a window's part that the document names is held to it by `check::expect`, which asks for a
 // proof that its test passes. So is the header, which is written and read back.
-#![tactic(auto, using(law_model::specs::Frames::units_opening))]
+#![tactic(auto)]
 
 ghost use Rattle.std.specs.Prelude.{◌*◌, ◌-◌, ◌≤◌, ◌≡◌, ◌++◌, length, drop};
 ghost use Rattle.spec_lists.specs.Lists.{same_list};
@@ -135,7 +135,9 @@ fn plan_after(
     requires room { plan_words ≤ length plan.old }
     requires answers { Answered one_unit asked.now }
     requires planned { records_in (plan_of (after_offers one_unit asked.now)) ≡ records.now }
-    ensures { result ≡ advanced (after_offers one_unit asked.now) }
+    ensures is { result ≡ advanced (after_offers one_unit asked.now) }
+    ensures words { plan.new ≡ words_of (plan_of (after_offers one_unit asked.now))
+        ++ drop (record_words * length records.now) plan.old }
 {
     let mut planner = open(1);
     offers(&mut planner, asked);
@@ -303,7 +305,7 @@ fn case_10(plan: &mut [u32])
 }
 
 // Of a table that holds nothing.
-#[tactic(auto, using(crate::specs::Said::nothing_planned, law_model::specs::Frames::units_opening))]
+#[tactic(auto, using(crate::specs::Said::nothing_planned))]
 fn case_10_empty(plan: &mut [u32])
     requires { plan_words ≤ length plan.old }
 {

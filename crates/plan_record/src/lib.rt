@@ -90,7 +90,7 @@ pub fn start_of(plan: &[u32], n: usize) -> Slots
     r.start
 }
 
-// How many records are written, and the run that may still grow. A run has slots: `Record::begun` gives none where there are none.
+// How many records are written, and the run that may still grow: none where it has no slots. `Record::begun` gives none there.
 #[derive(Clone, Copy)]
 pub struct Pen {
     pub count: usize,
@@ -117,6 +117,9 @@ impl Pen {
         let Some(run) = self.run else {
             return self.count;
         };
+        if run.length.0 == 0 {
+            return self.count;
+        }
         write_record(plan, self.count, run);
         self.count + 1
     }

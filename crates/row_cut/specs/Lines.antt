@@ -6,6 +6,13 @@ use Rattle.row_cut.specs.declared.Reader.{Reader}
 use Rattle.row_cut.specs.declared.Cut.{Cut}
 use Rattle.spec_text.specs.Rows.{lf, cr, row_most}
 
+-- a line and a reader by their parts
+abbrev pub line_in : List ℕ → ℕ → Line
+line_in bs n = record { bytes = bs; len = n }
+
+abbrev pub reader_in : List ℕ → ℕ → Bool → Reader
+reader_in bs n h = record { line = line_in bs n; held = h }
+
 -- a row that has no byte yet
 unfoldable pub no_line : Line
 no_line = record { bytes = replicate row_most 0; len = 0 }

@@ -2,7 +2,7 @@
 #![tactic(auto)]
 
 ghost use Rattle.std.specs.Prelude.{◌≡◌};
-ghost use Rattle.row_cut.specs.Lines.{with_byte, at_start, unheld, cut_from};
+ghost use Rattle.row_cut.specs.Lines.{line_in, with_byte, at_start, unheld, cut_from};
 
 use spec_text::ROW_MOST;
 
@@ -39,18 +39,24 @@ pub fn at_start() -> Reader
     Reader { line, held: false }
 }
 
+// One byte more of a row: it is kept while there is room. The length after it.
+#[tactic(auto, unfolding(crate::specs::Lines::with_byte))]
+fn keep_byte(bytes: &mut [u8; ROW_MOST], len: usize, byte: u8) -> usize
+    ensures { line_in bytes.new result ≡ with_byte (line_in bytes.old len) byte }
+{
+    if len < ROW_MOST {
+        bytes[len] = byte;
+        len + 1
+    } else {
+        ROW_MOST + 1
+    }
+}
+
 impl Line {
-    // One byte more: it is kept while there is room.
-    #[tactic(auto, unfolding(crate::specs::Lines::with_byte))]
     fn push(&mut self, byte: u8)
         ensures { self.new ≡ with_byte self.old byte }
     {
-        if self.len < ROW_MOST {
-            self.bytes[self.len] = byte;
-            self.len += 1;
-        } else {
-            self.len = ROW_MOST + 1;
-        }
+        self.len = keep_byte(&mut self.bytes, self.len, byte);
     }
 }
 
@@ -70,25 +76,28 @@ pub fn unheld(r: Reader) -> Line
 pub fn cut_row(r: Reader, chunk: &[u8]) -> Cut
     ensures { result ≡ cut_from 0 r chunk.now }
 {
-    let mut reader = r;
+    // The length is a local: beside an array that is written at any place, as a field, it would be read and written at each byte.
+    let Line { mut bytes, mut len } = r.line;
+    let mut held = r.held;
     for (i, byte) in chunk.iter().enumerate() {
-        if reader.held {
+        if held {
             if *byte == b'\n' {
                 return Cut {
                     reader: at_start(),
                     taken: i + 1,
-                    row: Some(reader.line),
+                    row: Some(Line { bytes, len }),
                 };
             }
-            reader.line.push(b'\r');
+            len = keep_byte(&mut bytes, len, b'\r');
         }
-        reader.held = *byte == b'\r';
-        if !reader.held {
-            reader.line.push(*byte);
+        held = *byte == b'\r';
+        if !held {
+            len = keep_byte(&mut bytes, len, *byte);
         }
     }
+    let line = Line { bytes, len };
     Cut {
-        reader,
+        reader: Reader { line, held },
         taken: chunk.len(),
         row: None,
     }

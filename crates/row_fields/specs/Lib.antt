@@ -1,3 +1,4 @@
 pub mod FieldLaws
 pub mod FieldReads
 pub mod ReadLaws
+pub mod FieldSteps

@@ -10,19 +10,19 @@ ghost use Rattle.spec_rules.specs.WellFormed.{WellFormed};
 ghost use Rattle.spec_shelf.specs.Printed.{written};
 
 use call_answers::Refusal;
-use spec_model::{HeldRefusal, Name, Table};
+use spec_model::{Name, Table};
 
 // The table stays where it lies, and the place of the stream becomes free.
 fn withdraw_from(t: &mut Table, n: Name) -> u32
     requires { WellFormed t.old }
     ensures { (result ≡ held_answer t.old n) × (t.new ≡ withdrawn t.old n) }
 {
-    match table_places::place_of(&t.entries, n) {
-        Some(place) => {
+    match call_held::release(*t, n) {
+        Ok(place) => {
             t.entries[place] = spec_model::free_entry();
             call_answers::DONE
         }
-        None => HeldRefusal::NotHeld.number(),
+        Err(refusal) => refusal.number(),
     }
 }
 

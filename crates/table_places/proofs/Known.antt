@@ -1,5 +1,5 @@
 -- The places of a table that a function was passed, where it knows how many there are. Assumes nothing.
-use Rattle.std.proofs.Common.{◌≡◌, ◌∙◌, List, map, ℕ, ◌≤◌, ◌<◌, length, arith}
+use Rattle.std.proofs.Common.{◌≡◌, ◌∙◌, map, ℕ, ◌≤◌, ◌<◌, length, arith}
 use Rattle.std.proofs.lemmas.List.{length-map}
 use Rattle.spec_model.specs.Tables.{places}
 use Rattle.spec_model.specs.declared.Entry.{Entry}

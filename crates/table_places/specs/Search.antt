@@ -10,7 +10,7 @@ use Rattle.base_lists.specs.All.{all_of, map_ext}
 use Rattle.base_lists.specs.Sums.{sum_ext, sum_keep}
 use Rattle.base_lists.specs.Loops.{any_keep}
 use Rattle.base_lists.specs.First.{first_of, first_most, first_some, first_set}
-use Rattle.spec_model.specs.Names.{is_nobody}
+use Rattle.spec_model.specs.Names.{same, is_nobody}
 use Rattle.spec_model.specs.Entries.{free_entry, is_held, is_named}
 use Rattle.spec_model.specs.declared.Name.{Name}
 use Rattle.spec_model.specs.declared.Entry.{Entry}
@@ -19,7 +19,7 @@ use Rattle.spec_model.specs.Tables.{held_of}
 use Rattle.spec_rules.specs.Calls.{holds}
 use Rattle.spec_rules.specs.Reading.{entry_for}
 use Rattle.spec_rules.specs.WellFormed.{Once}
-use Rattle.law_model.specs.Names.{same_true, same_streams}
+use Rattle.law_model.specs.Names.{same_true}
 
 abbrev pub is_held_as : Name → Entry → Bool
 is_held_as n e = is_held e && is_named n e
@@ -119,8 +119,8 @@ held_by_name n some e = go (is_named n e) refl
     go true q = ap (λ m. not (is_nobody m) && true) (same_true e.name n q) ∙ ap (λ b. not b && true) some
     go false q = and_false (is_held e)
 
-pub eq_held : (n : Name) → is_nobody n ≡ false → (e : Entry) → eqb e.name.stream n.stream ≡ is_held_as n e
-eq_held n some e = same_streams e.name n ∙ sym (held_by_name n some e)
+pub eq_held : (n : Name) → is_nobody n ≡ false → (e : Entry) → same e.name n ≡ is_held_as n e
+eq_held n some e = sym (held_by_name n some e)
 
 module _ (n : Name) (z : is_nobody n ≡ true) where
   nobody_as : (e : Entry) → is_held_as n e ≡ false

@@ -117,13 +117,13 @@ free_needs t w = all_map one w.entries
     one e (inl z) f = ap even_need z ∙ need_free
     one e (inr h) f = absurd (clash (is_free e) f (ap not (held_is h)))
 
--- what a whole pass has found
-pub passed_all : {name : Name} {i : ℕ} (t : Table) {s : Survey} → i ≡ places → length t.entries ≤ i → Passed name t.entries i s
-    → (s.taken ≡ holds t name) × (s.free ≡ found places (first_of is_free t.entries)) × (s.needed ≡ sum_of even_need t.entries) × Used s.used t
+-- what a whole pass has found, where it may stop before the last place
+pub passed_all : {name : Name} {i : ℕ} (t : Table) {s : Survey} → i ≤ places → length t.entries ≤ i → Passed name t.entries i s
+    → (s.taken ≡ holds t name) × (s.free ≡ found i (first_of is_free t.entries)) × (s.needed ≡ sum_of even_need t.entries) × Used s.used t
 passed_all {name} {i} t {s} k h p =
     let all = take_all i t.entries h in (
       p.taken ∙ ap (any_of (is_held_as name)) all ∙ held_as t name,
-      p.free ∙ ap (found i) (ap (first_of is_free) all) ∙ ap (λ n. found n (first_of is_free t.entries)) k,
+      p.free ∙ ap (found i) (ap (first_of is_free) all),
       p.needed ∙ ap (sum_of even_need) all,
       (omega (arith, p.last), subst (Spare free_entry s.used) all p.used),
     )

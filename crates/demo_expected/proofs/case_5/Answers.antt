@@ -14,9 +14,9 @@ plan_after-planner-requires c =
 pub withdraw-requires : goal.withdraw-requires
 withdraw-requires c =
     let f = rw (plan_told (line (at5 + 3))).1 at (line (at5 + 4)).answer in
-    rw (c.plan_after-planner.ensures, c.request.ensures, c.request-2.ensures) f
+    rw (c.plan_after-planner.ensures.is, c.request.ensures, c.request-2.ensures) f
 
 pub offer-requires : goal.offer-requires
 offer-requires c =
     let f = rw (plan_told (line (at5 + 3))).1 at (line (at5 + 5)).answer in
-    rw (c.withdraw.ensures, c.plan_after-planner.ensures, c.request.ensures, c.request-2.ensures, c.request-3.ensures) f
+    rw (c.withdraw.ensures, c.plan_after-planner.ensures.is, c.request.ensures, c.request-2.ensures, c.request-3.ensures) f

@@ -1,11 +1,14 @@
-use mathlib.Core.Path.{◌≡◌}
+use mathlib.Core.Path.{◌≡◌, ap, ◌∙◌}
 use mathlib.Core.Bool.{true}
 use Prim.Native.Nat.{◌≤◌}
 use native.Mathlib.Omega.{arith}
 use Rattle.base_lists.specs.All.{all_at}
+use Rattle.base_lists.specs.First.{first_of}
+use Rattle.spec_model.specs.Tables.{places}
 use Rattle.spec_rules.specs.Share.{load_of}
 use Rattle.law_model.specs.Frames.{most_slots}
 use Rattle.law_steps.proofs.Closed.{load_most}
+use Rattle.table_places.specs.Search.{found}
 use Rattle.table_places.proofs.Known.{inside, past}
 use Rattle.table_queue.specs.Queues.{free_place}
 use Rattle.ahead_even.specs.Need.{even_need}
@@ -39,4 +42,6 @@ loop-i-preserved c =
 pub returns : goal.returns
 returns c =
     let v = c.loop-i.invariant in
-    passed_all c.args.t (omega arith) (past c.args.t (omega arith) c.loop-i-test.false) v.1
+    let e : c.loop-i.i ≡ places = omega arith in
+    let a = passed_all c.args.t (omega arith) (past c.args.t (omega arith) c.loop-i-test.false) v.1 in
+    (a.0, a.1 ∙ ap (λ n. found n (first_of is_free c.args.t.entries)) e, a.2, a.3)

@@ -1,6 +1,0 @@
--- `beacon_plan::write_plan` meets its contract: the rows are begun, and run. Assumes nothing.
-use Rattle.beacon_plan.specs.Places.{short}
-use Rattle.beacon_plan.proofs.write_plan.Goals as goal
-
-pub begin_rows-requires-clause-few : goal.begin_rows-requires-clause-few
-begin_rows-requires-clause-few c = (c.requires.few, short c.requires.rows.0.short c.requires.rows.0.each)
